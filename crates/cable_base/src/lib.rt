@@ -1,0 +1,29 @@
+//! What every crate of the server stands on: texts and names, the numbers of things, rows, sources and sinks of bytes,
+//! the clock, and JSON without its white space.
+#![tactic(auto)]
+
+mod adapters;
+mod clocks;
+mod failing;
+mod faults;
+mod lists;
+mod memory;
+mod numbers;
+mod rows;
+mod squeezing;
+mod streams;
+#[cfg(test)]
+mod tests;
+mod texts;
+
+pub use adapters::{StdSink, StdSource};
+pub use clocks::{Clock, SystemClock};
+pub use failing::FailingCalls;
+pub use faults::{Failed, OutOfMemory, Trouble};
+pub use lists::{Copied, Listed};
+pub use memory::{MemSink, MemSource};
+pub use numbers::{ConnNo, Millis, NodeNo, RowId, SubNo, WantNo};
+pub use rows::Row;
+pub use squeezing::{Quoting, squeeze, squeezing_keeps_the_value};
+pub use streams::{Sink, Source};
+pub use texts::{Name, Text};

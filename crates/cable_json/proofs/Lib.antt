@@ -1,0 +1,4 @@
+pub mod ReadBack
+pub mod Said
+pub mod SaidDisconnects
+pub mod Whole

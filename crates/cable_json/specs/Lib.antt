@@ -1,0 +1,4 @@
+pub mod Commands
+pub mod Disconnects
+pub mod Members
+pub mod Texts

@@ -1,0 +1,71 @@
+ghost use Rattle.std.specs.Prelude.{◌≡◌, IfOk, string_bytes};
+ghost use Rattle.json.specs.Print.{quoted};
+ghost use Rattle.cable_base.specs.Squeeze.{IsSqueezedJson};
+ghost use Rattle.cable_json.specs.Texts.{welcome_text, ping_text, confirm_text, reject_text, message_text, disconnect_text};
+
+use crate::reasons::Reason;
+use cable_base::{OutOfMemory, Text};
+use serde_json::Value;
+use std::alloc::Global;
+
+/// The text as a JSON string, with the shortest escapes (RFC 8259, section 7). HTML characters stand as they are.
+fn quoted_string(alloc: Global, text: &str) -> Result<String, OutOfMemory>
+    ensures { IfOk result (λ s. string_bytes s ≡ quoted text.now) }
+{
+    let value = Value::String(String::from_str(alloc, text)?);
+    Ok(value.to_string(alloc)?)
+}
+
+/// The text that greets a client.
+pub fn welcome(alloc: Global) -> Result<Text, OutOfMemory>
+    ensures { IfOk result (λ t. t ≡ welcome_text) }
+{
+    Text::new(alloc, "{\"type\":\"welcome\"}")
+}
+
+/// The text that tells the moment, in whole seconds since 1970.
+pub fn ping(alloc: Global, seconds: u64) -> Result<Text, OutOfMemory>
+    ensures { IfOk result (λ t. t ≡ ping_text seconds) }
+{
+    Ok(Text::of(format!(in alloc; "{{\"type\":\"ping\",\"message\":{seconds}}}")?))
+}
+
+/// The text that confirms the subscription with this identifier.
+pub fn confirm(alloc: Global, identifier: &str) -> Result<Text, OutOfMemory>
+    ensures { IfOk result (λ t. t ≡ confirm_text identifier.now) }
+{
+    let identifier = quoted_string(alloc, identifier)?;
+    Ok(Text::of(format!(in alloc;
+        "{{\"identifier\":{identifier},\"type\":\"confirm_subscription\"}}"
+    )?))
+}
+
+/// The text that refuses the subscription with this identifier.
+pub fn reject(alloc: Global, identifier: &str) -> Result<Text, OutOfMemory>
+    ensures { IfOk result (λ t. t ≡ reject_text identifier.now) }
+{
+    let identifier = quoted_string(alloc, identifier)?;
+    Ok(Text::of(format!(in alloc;
+        "{{\"identifier\":{identifier},\"type\":\"reject_subscription\"}}"
+    )?))
+}
+
+/// The text that carries a payload to the subscription with this identifier. The payload stands in it as it is, one level deeper:
+/// where it nests 127 arrays and objects, the text nests 128, which `read_json` doesn't read.
+pub fn message(alloc: Global, identifier: &str, payload: &str) -> Result<Text, OutOfMemory>
+    requires { IsSqueezedJson payload.now }
+    ensures { IfOk result (λ t. t ≡ message_text identifier.now payload.now) }
+{
+    let identifier = quoted_string(alloc, identifier)?;
+    Ok(Text::of(format!(in alloc; "{{\"identifier\":{identifier},\"message\":{payload}}}")?))
+}
+
+/// The text that ends a connection, and says whether the client is to connect again.
+pub fn disconnect(alloc: Global, reason: Reason, reconnect: bool) -> Result<Text, OutOfMemory>
+    ensures { IfOk result (λ t. t ≡ disconnect_text reason reconnect) }
+{
+    let reason = reason.word();
+    Ok(Text::of(format!(in alloc;
+        "{{\"type\":\"disconnect\",\"reason\":\"{reason}\",\"reconnect\":{reconnect}}}"
+    )?))
+}

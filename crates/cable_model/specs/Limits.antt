@@ -1,0 +1,34 @@
+-- The limits of a session.
+use Rattle.std.specs.Prelude.{ℕ, ◌-◌, ◌^◌}
+
+-- bytes of a command's text
+abbrev pub most_text : ℕ
+most_text = 65536
+
+-- commands of a connection that wait
+abbrev pub most_waiting : ℕ
+most_waiting = 256
+
+-- live connections of a node
+abbrev pub most_connections : ℕ
+most_connections = 1000
+
+-- subscriptions of a connection
+abbrev pub most_subscriptions : ℕ
+most_subscriptions = 100
+
+-- different streams of a subscription
+abbrev pub most_streams : ℕ
+most_streams = 100
+
+-- bytes of a name that callbacks hold or cast to
+abbrev pub most_name : ℕ
+most_name = 1024
+
+-- bytes of a payload that callbacks cast
+abbrev pub most_payload : ℕ
+most_payload = 1048576
+
+-- rows that a read gives at most: as many as there are, until reads are paged
+abbrev pub page_rows : ℕ
+page_rows = 2 ^ 64 - 1

@@ -1,0 +1,36 @@
+//! Replays a session script: reads it from standard input and writes its transcript to standard output.
+//!
+//! It ends with the code of its status: 0 where the transcript is written, 2 for words, 3 for a script that isn't built, 7 where
+//! standard input failed, 8 where standard output failed, 9 for want of memory, 12 for more than 2^40 bytes.
+#![tactic(auto)]
+
+use cable_base::{StdSink, StdSource};
+use cable_model::Status;
+use replay_cli::replay;
+use std::process::ExitCode;
+use std::{env, io};
+
+/// The words behind the program's name.
+fn words(rt: &HostRuntime) -> io::Result<Vec<String>> {
+    let mut words = Vec::new(rt.alloc());
+    for word in env::args(rt)?.skip(1) {
+        words.push(word)?;
+    }
+    Ok(words)
+}
+
+/// A word that isn't UTF-8 makes a faulty command line.
+fn run(rt: &HostRuntime) -> Status {
+    let words = match words(rt) {
+        Ok(words) => words,
+        Err(error) if error.kind() == io::ErrorKind::OutOfMemory => return Status::OutOfMemory,
+        Err(_) => return Status::Usage,
+    };
+    let mut source = StdSource::on(rt.stdin());
+    let mut sink = StdSink::on(rt.stdout());
+    replay(rt.alloc(), &words, &mut source, &mut sink)
+}
+
+fn main(rt: HostRuntime) -> ExitCode {
+    ExitCode::from(run(&rt).code())
+}

@@ -1,0 +1,16 @@
+pub mod BuiltPlayed
+pub mod Cuts
+pub mod Following
+pub mod FollowingWork
+pub mod LinesCut
+pub mod LinesRead
+pub mod Outcomes
+pub mod PerformedLines
+pub mod RunsOn
+pub mod ScriptsRead
+pub mod SeatsChanged
+pub mod Spellings
+pub mod SubscribePlans
+pub mod Subscribing
+pub mod WholeInputs
+pub mod WholeOutputs

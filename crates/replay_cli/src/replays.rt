@@ -1,0 +1,104 @@
+ghost use Rattle.std.specs.Prelude.{◌≡◌, ◌<◌, ◌≤◌, ◌↔◌, length};
+ghost use Rattle.cable_model.specs.declared.statuses.Status.TheVariants as status;
+ghost use Rattle.replay_cli.specs.Replay.{OutcomeBy, IsRead, Outcome, IsComplete};
+
+use crate::inputs::{Unfinished, read_all};
+use crate::lines::Unread;
+use crate::performing::perform;
+use crate::scripts::read_script;
+use cable_base::{Sink, Source, Trouble};
+use cable_model::{BreakReason, Status};
+use std::alloc::Global;
+
+/// Reads the source to its end, reads the bytes as a script, and performs it.
+fn replayed<S: Source, K: Sink>(
+    alloc: Global,
+    words: &[String],
+    source: &mut S,
+    sink: &mut K,
+) -> Status
+    ensures usage { (result ≡ status.Usage) ↔ (0 < length words.now) }
+    ensures outcome { OutcomeBy IsRead result (record {
+      words = length words.now;
+      source = record {
+        left = S.left source.old;
+        left_behind = S.left source.new;
+        ends = S.ends source.old;
+        ends_behind = S.ends source.new;
+        faults = S.faults source.old;
+        faults_behind = S.faults source.new;
+      };
+      sink = record {
+        taken = K.taken sink.old;
+        taken_behind = K.taken sink.new;
+        faults = K.faults sink.old;
+        faults_behind = K.faults sink.new;
+      };
+    }) }
+{
+    if !words.is_empty() {
+        return Status::Usage;
+    }
+    let mut text = Vec::new(alloc);
+    match read_all(&mut text, source) {
+        Ok(()) => {}
+        Err(Unfinished::Failed) => return Status::ReadFault,
+        Err(Unfinished::TooMuch) => return Status::TooMuch,
+        Err(Unfinished::OutOfMemory) => return Status::OutOfMemory,
+    }
+    let script = match read_script(alloc, &text) {
+        Ok(script) => script,
+        Err(Unread::NotBuilt) => {
+            return Status::BadScript {
+                line: 0,
+                reason: BreakReason::NotBuilt,
+            };
+        }
+        Err(Unread::OutOfMemory) => return Status::OutOfMemory,
+    };
+    match perform(alloc, script, sink) {
+        Ok(()) => Status::Ok,
+        Err(Trouble::Failed) => Status::WriteFault,
+        Err(Trouble::OutOfMemory) => Status::OutOfMemory,
+    }
+}
+
+/// Replays a session script: reads it from the source and writes its transcript to the sink.
+///
+/// - `Ok`: the source was read to its end, its bytes are a built script, and its transcript is written.
+/// - `Usage`: there are words. Nothing is read or written.
+/// - `BadScript`: the source was read to its end, and its bytes are no built script. Nothing is written.
+/// - `ReadFault`: the source failed. Nothing is written.
+/// - `TooMuch`: the source gave more than 2^40 bytes. Nothing is written.
+/// - `WriteFault`, `OutOfMemory`: a beginning of the transcript is written.
+pub fn replay<S: Source, K: Sink>(
+    alloc: Global,
+    words: &[String],
+    source: &mut S,
+    sink: &mut K,
+) -> Status
+    ensures usage { (result ≡ status.Usage) ↔ (0 < length words.now) }
+    ensures outcome { Outcome result (record {
+      words = length words.now;
+      source = record {
+        left = S.left source.old;
+        left_behind = S.left source.new;
+        ends = S.ends source.old;
+        ends_behind = S.ends source.new;
+        faults = S.faults source.old;
+        faults_behind = S.faults source.new;
+      };
+      sink = record {
+        taken = K.taken sink.old;
+        taken_behind = K.taken sink.new;
+        faults = K.faults sink.old;
+        faults_behind = K.faults sink.new;
+      };
+    }) }
+
+    // A built script is replayed, unless something fails or memory runs out.
+    ensures complete { IsComplete result (length words.now) (S.left source.old)
+        (S.faults source.old) (S.faults source.new) (K.faults sink.old) (K.faults sink.new) }
+{
+    replayed(alloc, words, source, sink)
+}
