@@ -1,0 +1,4 @@
+pub mod Inboxes
+pub mod Inside
+pub mod ReadyLists
+pub mod Queued

@@ -1,0 +1,3 @@
+pub mod Holds
+pub mod HoldMaps
+pub mod Entries
