@@ -46,6 +46,7 @@ impl NodeLog {
     pub fn reserve(&mut self, more: u64) -> Result<(), OutOfMemory>
         ensures ok { OnOk result (MakesRoom more self.old self.new) }
         ensures err { OnErr result (self.new ≡ self.old) }
+        ensures enough { more ≤ self.old.spare → IsOk result }
     {
         self.entries.reserve(more as usize)?;
         Ok(())

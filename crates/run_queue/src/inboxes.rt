@@ -93,6 +93,7 @@ impl Inbox {
     pub fn reserve(&mut self, more: u64) -> Result<(), OutOfMemory>
         ensures same { Keeps self.old self.new }
         ensures ok { OnOk result (more ≤ self.new.spare) }
+        ensures enough { more ≤ self.old.spare → IsOk result }
     {
         if u64::MAX - self.last < more {
             return Err(OutOfMemory);

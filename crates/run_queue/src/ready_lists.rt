@@ -78,6 +78,7 @@ impl Ready {
     pub fn reserve(&mut self, more: u64) -> Result<(), OutOfMemory>
         ensures same { ReadyKeeps self.old self.new }
         ensures ok { OnOk result (more ≤ self.new.spare) }
+        ensures enough { more ≤ self.old.spare → IsOk result }
     {
         if u64::MAX - self.next_stamp < more {
             return Err(OutOfMemory);
