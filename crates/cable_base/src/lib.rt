@@ -1,5 +1,5 @@
 //! What every crate of the server stands on: texts and names, the numbers of things, rows, sources and sinks of bytes,
-//! the clock, and JSON without its white space.
+//! the clock, counts of steps, and JSON without its white space.
 #![tactic(auto)]
 
 mod adapters;
@@ -11,6 +11,7 @@ mod memory;
 mod numbers;
 mod rows;
 mod squeezing;
+mod steps;
 mod streams;
 #[cfg(test)]
 mod tests;
@@ -25,5 +26,6 @@ pub use memory::{MemSink, MemSource};
 pub use numbers::{ConnNo, Millis, NodeNo, RowId, SubNo, WantNo};
 pub use rows::Row;
 pub use squeezing::{Quoting, squeeze, squeezing_keeps_the_value};
+pub use steps::Steps;
 pub use streams::{Sink, Source};
 pub use texts::{Name, Text};

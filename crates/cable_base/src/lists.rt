@@ -65,6 +65,13 @@ impl<T> Listed<T> {
         Listed { items }
     }
 
+    /// The items, as a vector.
+    pub fn into_items(self) -> Vec<T>
+        ensures { result.items ≡ self }
+    {
+        self.items
+    }
+
     /// The items, in order.
     pub fn as_slice(&self) -> &[T]
         ensures { result.now ≡ self.now }

@@ -7,7 +7,8 @@ use Rattle.cable_base.specs.declared.numbers.NodeNo.{NodeNo}
 use Rattle.cable_base.specs.declared.numbers.Millis.{Millis}
 use Rattle.cable_base.specs.Squeeze.{squeezed}
 use Rattle.cable_base.specs.Hash.{channel_hash_of}
-use Rattle.channel_book.specs.Shapes.{Declared, book_of}
+use Rattle.channel_book.specs.Shapes.{Declared}
+use Rattle.channel_book.specs.Books.{book_of}
 use Rattle.channel_book.specs.Answers.{identified_by, subscribed_by, unsubscribed_by, performed_by}
 use Rattle.cable_model.specs.declared.events.Event.{Event}
 use Rattle.cable_model.specs.declared.events.Event.TheVariants.{Boot, Open, In, Drop, Stop, Take, Put, Finish, Cast, Trim, Ask, Read, Deliver, Beat, Fault}

@@ -7,6 +7,7 @@ use Rattle.cable_model.specs.declared.events.Event.{Event}
 use Rattle.cable_model.specs.declared.events.Event.TheVariants as event
 use Rattle.cable_model.specs.declared.lines.Line.{Line}
 use Rattle.cable_model.specs.declared.lines.Line.TheVariants as line
+use Rattle.cable_model.specs.declared.lines.Totals.{Totals}
 use Rattle.cable_model.specs.declared.notes.Note.{Note}
 use Rattle.cable_model.specs.declared.notes.Note.TheVariants as note
 use Rattle.cable_model.specs.declared.plans.Plan.{Plan}
@@ -130,6 +131,35 @@ lines_text lines = flat_map (λ l. ended (line_text l)) lines
 -- the bytes that a history's run writes
 abbrev pub transcript : Rules → List Event → List ℕ
 transcript r events = lines_text (said_all r start events) ++ ended (end_line (length events) (idle_count r start events))
+
+-- ---- totals
+
+abbrev pub no_totals : Totals
+no_totals = record { rows = 0; trimmed = 0; texts = 0; notes = 0 }
+
+-- these totals with a line more
+abbrev pub with_line : Totals → Line → Totals
+with_line t (line.Text conn text) = record { rows = t.rows; trimmed = t.trimmed; texts = t.texts + 1; notes = t.notes }
+with_line t (line.Note conn n) = record { rows = t.rows; trimmed = t.trimmed; texts = t.texts; notes = t.notes + 1 }
+with_line t (line.Row id) = record { rows = t.rows + 1; trimmed = t.trimmed; texts = t.texts; notes = t.notes }
+with_line t (line.Trimmed count) = record { rows = t.rows; trimmed = t.trimmed + count; texts = t.texts; notes = t.notes }
+
+-- these totals with more lines, one after the other
+abbrev pub with_lines : Totals → List Line → Totals
+with_lines t [] = t
+with_lines t (l ∷ ls) = with_lines (with_line t l) ls
+
+-- what lines come to
+abbrev pub totals_of : List Line → Totals
+totals_of lines = with_lines no_totals lines
+
+abbrev pub totals_line : Totals → List ℕ
+totals_line t =
+    codes "totals rows=" ++ decimal t.rows ++ codes " trimmed=" ++ decimal t.trimmed ++ codes " texts=" ++ decimal t.texts ++ codes " notes=" ++ decimal t.notes
+
+-- the transcript with a last line that tells its totals
+abbrev pub transcript_with_totals : Rules → List Event → List ℕ
+transcript_with_totals r events = transcript r events ++ ended (totals_line (totals_of (said_all r start events)))
 
 -- ---- what is queued on a connection
 

@@ -19,7 +19,7 @@ pub use laws::{
     no_row_is_finished_after_the_end, pieces_are_worked_in_sequence, restrictions_are_legal,
     trims_take_only_old_rows, windows_of_histories, windows_of_journals,
 };
-pub use lines::Line;
+pub use lines::{Line, Totals};
 pub use notes::Note;
 pub use pieces::Piece;
 pub use plans::{Change, Closing, Plan, Task};

@@ -42,3 +42,16 @@ impl Copied for Line {
         self.copy(alloc)
     }
 }
+
+/// What the lines of a transcript come to.
+#[derive(Clone, Copy, Debug, PartialEq, Eq)]
+pub struct Totals {
+    /// How many rows were committed.
+    pub rows: u64,
+    /// How many rows were trimmed.
+    pub trimmed: u64,
+    /// How many texts were queued.
+    pub texts: u64,
+    /// How many notes were made.
+    pub notes: u64,
+}

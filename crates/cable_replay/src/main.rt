@@ -1,6 +1,7 @@
-//! Replays a session script: reads it from standard input and writes its transcript to standard output.
+//! Replays a session script: reads it from standard input and writes its transcript to standard output. With the word `--totals` a line
+//! stands behind it that tells how many rows were committed and trimmed, and how many texts and notes there are.
 //!
-//! It ends with the code of its status: 0 where the transcript is written, 2 for words, 3 for a script that isn't built, 7 where
+//! It ends with the code of its status: 0 where all is written, 2 for other words, 3 for a script that isn't built, 7 where
 //! standard input failed, 8 where standard output failed, 9 for want of memory, 12 for more than 2^40 bytes.
 #![tactic(auto)]
 

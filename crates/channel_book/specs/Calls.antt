@@ -19,6 +19,11 @@ abbrev pub Gives : {X : Type 0} → Result X CallFault → Result X CallFault �
 Gives (Ok x) expected = expected ≡ Ok x
 Gives (Err f) expected = Faults f expected
 
+-- a call answered what is expected, seen by view
+abbrev pub GivesBy : {X Y : Type 0} → (X → Y) → Result X CallFault → Result Y CallFault → Type 0
+GivesBy view (Ok x) expected = expected ≡ Ok (view x)
+GivesBy view (Err f) expected = Faults f expected
+
 -- the says and the payloads are squeezed JSON
 pub record SpeaksJson (answer : Answer) : Type 0 where
   pub says : All IsSqueezedJson answer.says

@@ -1,4 +1,10 @@
 pub mod Answers
+pub mod Books
 pub mod Calls
+pub mod Json
+pub mod Names
+pub mod Parameters
+pub mod Paths
 pub mod Shapes
 pub mod Steps
+pub mod Templates

@@ -1,28 +1,34 @@
-ghost use Rattle.std.specs.Prelude.{◌≡◌, ◌≤◌, length, option_map, IfSome, IfOk, is_some, option_and_then, bytes_eq};
-ghost use Rattle.std.specs.List.{list_any};
-ghost use Rattle.serde_json.specs.Read.{read};
-ghost use Rattle.serde_json.specs.Find.{as_object};
-ghost use Rattle.channel_book.specs.Shapes.{Reads, book_of};
-ghost use Rattle.channel_book.specs.Answers.{user_among, nothing, channel_named, declared, channel_among, channel_of};
-ghost use Rattle.channel_book.specs.Calls.{Gives, SpeaksJson};
+ghost use Rattle.std.specs.Prelude.{◌≡◌, ◌≤◌, length, option_map, IfSome, IfOk};
+ghost use Rattle.serde_json.specs.View.{view};
+ghost use Rattle.channel_book.specs.Calls.{Gives, GivesBy, SpeaksJson};
 ghost use Rattle.channel_book.specs.Steps.{or_fault};
+ghost use Rattle.channel_book.specs.Paths.{ReadsPart};
+ghost use Rattle.channel_book.specs.Shapes.{shape_in};
+ghost use Rattle.channel_book.specs.Books.{Reads, shape_or_fault, unless_reserved, unless_repeated, book_of};
+ghost use Rattle.channel_book.specs.Answers.{user_among, identifier_of, channel_among, object_of, action_among, subscribed_among, unsubscribed_among, performed_among};
 ghost use Rattle.channel_book.specs.declared.answers.CallFault.TheVariants as fault;
 
+use crate::answering::{reaction, subscription, termination};
 use crate::answers::{Answer, CallFault};
+use crate::asking::asked_at;
 use crate::callbacks::Callbacks;
-use crate::faults::BookFault;
-use crate::shapes::{channels_of, text_at, users_of};
-use crate::users::User;
-use cable_base::{Listed, OutOfMemory, Text};
+use crate::checks::{repeated_in, reserved_in};
+use crate::declarations::{Action, Channel, User};
+use crate::faults::{BookFault, ShapeFault};
+use crate::names::Indexed;
+use crate::parts::{here, in_member};
+use crate::shapes::{channels_in, text_at, tokens_in};
+use cable_base::Text;
 use cable_json::read_json;
+use serde_json::Value;
 use std::alloc::Global;
 use std::marker::Model;
 
-/// A channel book, seen as what it declares: the users by their tokens, and the channels by their names.
+/// A channel book, seen as what it declares: the users by their tokens, and the channels.
 #[derive(Debug, Drop)]
 pub struct Book {
-    users: Listed<(Text, User)>,
-    channels: Listed<Text>,
+    users: Indexed<User>,
+    channels: Indexed<Channel>,
 }
 
 impl Model for Book {
@@ -33,101 +39,195 @@ impl Model for Book {
     ghost view = { λ b. record { users = b.users; channels = b.channels } };
 }
 
+/// What a JSON value declares.
+fn shape_in(alloc: Global, value: &Value) -> Result<Book, ShapeFault>
+    ensures { ReadsPart result (shape_in (view value.now)) }
+{
+    here(alloc, value.as_object())?;
+    let users = in_member(alloc, "tokens", tokens_in(alloc, value.get("tokens")))?;
+    let channels = in_member(alloc, "channels", channels_in(alloc, value.get("channels")))?;
+    Ok(Book {
+        users: Indexed::of(alloc, users)?,
+        channels: Indexed::of(alloc, channels)?,
+    })
+}
+
+fn shape_or_fault(alloc: Global, value: &Value) -> Result<Book, BookFault>
+    ensures { Reads result (shape_or_fault (shape_in (view value.now))) }
+{
+    match shape_in(alloc, value) {
+        Ok(book) => Ok(book),
+        Err(ShapeFault::Broken { path }) => Err(BookFault::BadShape { path }),
+        Err(ShapeFault::OutOfMemory) => Err(BookFault::OutOfMemory),
+    }
+}
+
+/// The book, unless one of its templates is reserved.
+fn unless_reserved(alloc: Global, book: Book) -> Result<Book, BookFault>
+    ensures { Reads result (unless_reserved book) }
+{
+    match reserved_in(book.channels.as_slice()) {
+        Some(template) => Err(BookFault::ReservedStream {
+            template: Text::new(alloc, template)?,
+        }),
+        None => Ok(book),
+    }
+}
+
+/// The book, unless one of its names stood before.
+fn unless_repeated(alloc: Global, book: Book) -> Result<Book, BookFault>
+    ensures { Reads result (unless_repeated book) }
+{
+    match repeated_in(&book.channels) {
+        Some(name) => Err(BookFault::RepeatedName {
+            name: Text::new(alloc, name)?,
+        }),
+        None => Ok(book),
+    }
+}
+
 impl Book {
-    /// The book of a text, one JSON object. `tokens` is an object from token to user, where each user is a string of at most 1,000
-    /// bytes. `channels` is a list of channels with different names, each an object whose `name` is a string that isn't empty.
-    /// Unknown members are passed over. `NotBuilt` where the text is no such book, or where a channel has another member of the
-    /// format.
+    /// The book of a text, which is one JSON object.
+    ///
+    /// `tokens` is an object from token to user, a string of at most 1,000 bytes. `channels` is a list of channels. A channel has a
+    /// `name`, and lists: `requires` the names that its templates may take up besides `user`, `streams` of templates, `says` of
+    /// strings that hold JSON, `enter` and `leave` of objects with a template `to` and a string `payload` that holds JSON, and
+    /// `actions`. An action has a `name`, `casts`, a list of templates, `echo`, a truth value, and `streams` and `stops`, lists of
+    /// templates. Names aren't empty. All but `channels`, `name`, `to` and `payload` may be missing. Unknown members are passed over.
+    ///
+    /// The faults are tried in the order of `BookFault`. `BadShape` tells the first place of the walk: the members in the order in
+    /// which they stand here, the items of each list in order. The format is this profile's; `docs/BOOK.md` has it whole.
     pub fn read(alloc: Global, text: &str) -> Result<Book, BookFault>
         ensures { Reads result (book_of text.now) }
     {
-        let Some(book) = read_json(alloc, text)? else {
-            return Err(BookFault::NotBuilt);
+        let Some(value) = read_json(alloc, text)? else {
+            return Err(BookFault::BadJson);
         };
-        let users = users_of(alloc, &book)?;
-        let channels = channels_of(alloc, &book)?;
-        Ok(Book { users, channels })
+        let book = shape_or_fault(alloc, &value)?;
+        let book = unless_reserved(alloc, book)?;
+        unless_repeated(alloc, book)
     }
 
-    /// The channel that an identifier names, or the fault of the identifier.
-    fn channel_of(&self, alloc: Global, identifier: &str) -> Result<Text, CallFault>
-        ensures { Gives result (channel_of self.now identifier.now) }
+    /// The channels that it declares, in order. It takes no memory.
+    pub fn channels(&self) -> &[Channel]
+        ensures { result.now ≡ self.now.channels }
     {
-        channel_among(alloc, self.channels.as_slice(), identifier)
+        self.channels.as_slice()
     }
 }
 
 /// The user of a token.
-fn user_among<'a>(users: &'a [(Text, User)], token: &str) -> Option<&'a str>
+fn user_among<'a>(users: &'a Indexed<User>, token: &str) -> Option<&'a str>
     ensures user { option_map (λ s. s.now) result ≡ user_among token.now users.now }
     ensures short { IfSome result (λ s. length s.now ≤ 1000) }
 {
-    for (known, user) in users {
-        if known.as_str() == token {
-            return Some(user.as_str());
-        }
+    match users.get(token) {
+        Some(user) => Some(user.as_str()),
+        None => None,
     }
-    None
 }
 
-/// The name of an identifier's channel. `BadIdentifier` where the identifier isn't good.
-fn channel_named(alloc: Global, identifier: &str) -> Result<Text, CallFault>
-    ensures { Gives result (or_fault fault.BadIdentifier (channel_named identifier.now)) }
+/// The identifier of a text. `BadIdentifier` where it isn't good.
+fn identifier_of(alloc: Global, text: &str) -> Result<Value, CallFault>
+    ensures { GivesBy view result (or_fault fault.BadIdentifier (identifier_of text.now)) }
 {
-    let Some(value) = read_json(alloc, identifier)? else {
+    let Some(value) = read_json(alloc, text)? else {
         return Err(CallFault::BadIdentifier);
     };
-    match text_at(&value, "channel") {
-        Some(name) => Ok(Text::new(alloc, name)?),
-        None => Err(CallFault::BadIdentifier),
-    }
-}
-
-fn is_declared(channels: &[Text], name: &str) -> bool
-    ensures { result ≡ list_any (λ c. bytes_eq c name.now) channels.now }
-{
-    channels.iter().any(|c| c.as_str() == name)
-}
-
-/// The channel of a name. `UnknownChannel` where there is none.
-fn declared(channels: &[Text], name: Text) -> Result<Text, CallFault>
-    ensures { Gives result (declared channels.now name) }
-{
-    if is_declared(channels, name.as_str()) {
-        Ok(name)
+    if text_at(&value, "channel").is_some() {
+        Ok(value)
     } else {
-        Err(CallFault::UnknownChannel)
+        Err(CallFault::BadIdentifier)
     }
 }
 
-/// The channel that an identifier names, among those declared.
-fn channel_among(alloc: Global, channels: &[Text], identifier: &str) -> Result<Text, CallFault>
-    ensures { Gives result (channel_among channels.now identifier.now) }
+/// The channel that an identifier names. `UnknownChannel` where there is none.
+fn channel_among<'a>(
+    channels: &'a Indexed<Channel>,
+    identifier: &Value,
+) -> Result<&'a Channel, CallFault>
+    ensures { GivesBy (λ c. c.now) result (or_fault fault.UnknownChannel (channel_among channels.now (view identifier.now))) }
 {
-    let name = channel_named(alloc, identifier)?;
-    declared(channels, name)
-}
-
-fn is_object(alloc: Global, text: &str) -> Result<bool, OutOfMemory>
-    ensures { IfOk result (λ b. b ≡ is_some (option_and_then as_object (read text.now))) }
-{
-    match read_json(alloc, text)? {
-        Some(value) => Ok(value.is_object()),
-        None => Ok(false),
+    let Some(name) = text_at(identifier, "channel") else {
+        return Err(CallFault::UnknownChannel);
+    };
+    match channels.get(name) {
+        Some(channel) => Ok(channel),
+        None => Err(CallFault::UnknownChannel),
     }
 }
 
-/// The answer of a callback that does nothing.
-fn nothing(alloc: Global) -> Answer
-    ensures { result ≡ nothing }
+/// The JSON object of a text. `BadData` where it is none.
+fn object_of(alloc: Global, text: &str) -> Result<Value, CallFault>
+    ensures { GivesBy view result (or_fault fault.BadData (object_of text.now)) }
 {
-    Answer {
-        rejected: false,
-        streams: Listed::empty(alloc),
-        stops: Listed::empty(alloc),
-        says: Listed::empty(alloc),
-        casts: Listed::empty(alloc),
+    let Some(value) = read_json(alloc, text)? else {
+        return Err(CallFault::BadData);
+    };
+    if value.is_object() {
+        Ok(value)
+    } else {
+        Err(CallFault::BadData)
     }
+}
+
+/// The action that a payload asks for. `UnknownAction` where it isn't declared.
+fn action_among<'a>(actions: &'a Indexed<Action>, payload: &Value) -> Result<&'a Action, CallFault>
+    ensures { GivesBy (λ a. a.now) result (or_fault fault.UnknownAction (action_among actions.now (view payload.now))) }
+{
+    let Some(name) = asked_at(payload.get("action")) else {
+        return Err(CallFault::UnknownAction);
+    };
+    match actions.get(name) {
+        Some(action) => Ok(action),
+        None => Err(CallFault::UnknownAction),
+    }
+}
+
+fn subscribed_among(
+    alloc: Global,
+    channels: &Indexed<Channel>,
+    user: &str,
+    text: &str,
+) -> Result<Answer, CallFault>
+    ensures answer { Gives result (subscribed_among channels.now user.now text.now) }
+    ensures json { IfOk result SpeaksJson }
+{
+    let identifier = identifier_of(alloc, text)?;
+    let channel = channel_among(channels, &identifier)?;
+    Ok(subscription(alloc, user, &identifier, channel)?)
+}
+
+fn unsubscribed_among(
+    alloc: Global,
+    channels: &Indexed<Channel>,
+    user: &str,
+    text: &str,
+) -> Result<Answer, CallFault>
+    ensures answer { Gives result (unsubscribed_among channels.now user.now text.now) }
+    ensures json { IfOk result SpeaksJson }
+{
+    let identifier = identifier_of(alloc, text)?;
+    let channel = channel_among(channels, &identifier)?;
+    Ok(termination(alloc, user, &identifier, channel)?)
+}
+
+#[tactic(auto, using(crate::proofs::Walk::object_reads))]
+fn performed_among(
+    alloc: Global,
+    channels: &Indexed<Channel>,
+    user: &str,
+    text: &str,
+    payload: &str,
+) -> Result<Answer, CallFault>
+    ensures answer { Gives result (performed_among channels.now user.now text.now payload.now) }
+    ensures json { IfOk result SpeaksJson }
+{
+    let identifier = identifier_of(alloc, text)?;
+    let channel = channel_among(channels, &identifier)?;
+    let asked = object_of(alloc, payload)?;
+    let action = action_among(&channel.rules.actions, &asked)?;
+    Ok(reaction(alloc, user, &identifier, channel, payload, action)?)
 }
 
 impl Callbacks for Book {
@@ -142,41 +242,29 @@ impl Callbacks for Book {
     ghost performed_of = { performed_by };
 
     fn identify(&self, token: &str) -> Option<&str> {
-        user_among(self.users.as_slice(), token)
+        user_among(&self.users, token)
     }
 
-    fn subscribed(
-        &self,
-        alloc: Global,
-        _user: &str,
-        identifier: &str,
-    ) -> Result<Answer, CallFault> {
-        let _channel = self.channel_of(alloc, identifier)?;
-        Ok(nothing(alloc))
+    fn subscribed(&self, alloc: Global, user: &str, identifier: &str) -> Result<Answer, CallFault> {
+        subscribed_among(alloc, &self.channels, user, identifier)
     }
 
     fn unsubscribed(
         &self,
         alloc: Global,
-        _user: &str,
+        user: &str,
         identifier: &str,
     ) -> Result<Answer, CallFault> {
-        let _channel = self.channel_of(alloc, identifier)?;
-        Ok(nothing(alloc))
+        unsubscribed_among(alloc, &self.channels, user, identifier)
     }
 
     fn perform(
         &self,
         alloc: Global,
-        _user: &str,
+        user: &str,
         identifier: &str,
         payload: &str,
     ) -> Result<Answer, CallFault> {
-        let _channel = self.channel_of(alloc, identifier)?;
-        if is_object(alloc, payload)? {
-            Err(CallFault::UnknownAction)
-        } else {
-            Err(CallFault::BadData)
-        }
+        performed_among(alloc, &self.channels, user, identifier, payload)
     }
 }

@@ -1,74 +1,78 @@
 -- The events of a built line are those that a session steps, and they are few.
-use Rattle.std.proofs.Common.{◌≡◌, ℕ, zero, suc, ◌+◌, ◌≤◌, true, List, [], ◌∷◌, ◌++◌, length, Option, None, Some, Result, Ok, Err, refl, arith}
-use Rattle.std.specs.Prelude.{IsSome, is_some, replicate}
-use Rattle.std.specs.List.{All}
+use Rattle.std.proofs.Common.{◌≡◌, ℕ, zero, suc, ◌+◌, ◌≤◌, true, List, [], ◌∷◌, ◌++◌, length, refl, sym, subst, arith}
+use Rattle.std.specs.Prelude.{replicate, IsSome}
+use Rattle.std.specs.List.{All, list_all}
 use Rattle.std.proofs.lemmas.Bool.{and_parts, eqb-true, leb-true}
-use Rattle.cable_json.specs.declared.commands.Command.{Command}
-use Rattle.cable_json.specs.declared.commands.Command.TheVariants.{Subscribe, Unsubscribe, Message}
-use Rattle.cable_json.specs.declared.commands.CommandFault.{CommandFault}
-use Rattle.cable_json.specs.Commands.{command_of}
-use Rattle.channel_book.specs.Shapes.{Declared}
-use Rattle.channel_book.specs.Answers.{identified_by}
+use Rattle.std.proofs.lemmas.List.Elements.{All-nil, All-cons}
+use Rattle.serde_json.specs.Read.{read}
+use Rattle.cable_base.specs.Squeeze.{squeezed, IsSqueezedJson}
 use Rattle.cable_model.specs.declared.events.Event.{Event}
 use Rattle.cable_model.specs.declared.events.Event.TheVariants as event
 use Rattle.cable_model.specs.declared.verbs.Verb.{Verb}
 use Rattle.cable_model.specs.declared.verbs.Verb.TheVariants.{One, Work, Poll}
-use Rattle.cable_model.specs.Script.{expand}
-use Rattle.replay_cli.specs.Built.{subscribes, is_built_event, is_built_verb}
+use Rattle.cable_model.specs.Script.{expand, IsCast, SpellsEvent, Spells, AllSpell}
+use Rattle.table_core.specs.Tables.{IsWithinLimits}
+use Rattle.replay_cli.specs.Built.{is_built_event, is_built_verb}
+use Rattle.replay_cli.specs.Running.{IsPlayedLine}
 use Rattle.replay_cli.specs.Sessions.{IsPlayed}
 
-subscribes_is : (book : Declared) (r : Result Command CommandFault) → subscribes book r ≡ true → (identifier : List ℕ) × (r ≡ Ok (Subscribe identifier))
-subscribes_is book (Ok (Subscribe identifier)) e = (identifier, refl)
-subscribes_is book (Ok (Unsubscribe identifier)) e = absurd cc
-subscribes_is book (Ok (Message identifier payload)) e = absurd cc
-subscribes_is book (Err fault) e = absurd cc
+-- squeezing keeps what a text reads to
+abbrev pub Squeezes : Type 0
+Squeezes = (text : List ℕ) → IsSome (read text) → IsSqueezedJson (squeezed text)
 
-some_user : (o : Option (List ℕ)) → is_some o ≡ true → IsSome o
-some_user None e = absurd cc
-some_user (Some u) e = e
+-- the grammar of a cast keeps within the table's limits
+within : Squeezes → (channel json payload : List ℕ) (at : ℕ) → at ≤ 9007199254740991 → IsCast channel json payload → IsWithinLimits channel payload at
+within squeezes channel json payload at early c =
+    record {
+      channel_len = c.short_name;
+      payload_len = c.short_payload;
+      message = subst IsSqueezedJson (sym c.squeezes) (squeezes json c.reads);
+      moment = omega (arith, early);
+    }
 
-event_played : (book : Declared) (e : Event) → is_built_event book e ≡ true → IsPlayed book e
-event_played book (event.Boot node) b = eqb-true node.0 1 b
-event_played book (event.Open node conn token) b = let p = and_parts _ _ b in (eqb-true node.0 1 p.0, some_user (identified_by book token) p.1)
-event_played book (event.In conn text) b = let p = and_parts _ _ b in subscribes_is book (command_of text) p.1
-event_played book (event.Drop conn) b = absurd cc
-event_played book (event.Stop node) b = absurd cc
-event_played book (event.Take conn) b = absurd cc
-event_played book (event.Put conn at) b = absurd cc
-event_played book (event.Finish conn) b = absurd cc
-event_played book (event.Cast at channel payload) b = absurd cc
-event_played book (event.Trim now retention batch) b = absurd cc
-event_played book (event.Ask node) b = absurd cc
-event_played book (event.Read node) b = absurd cc
-event_played book (event.Deliver node) b = absurd cc
-event_played book (event.Beat node now) b = absurd cc
-event_played book event.Fault b = absurd cc
+event_played : Squeezes → (e : Event) (line : List ℕ) → is_built_event e ≡ true → SpellsEvent e line → IsPlayed e
+event_played squeezes (event.Boot node) line b s = eqb-true node.0 1 b
+event_played squeezes (event.Open node conn token) line b s = eqb-true node.0 1 b
+event_played squeezes (event.In conn text) line b s = tt
+event_played squeezes (event.Drop conn) line b s = tt
+event_played squeezes (event.Stop node) line b s = eqb-true node.0 1 b
+event_played squeezes (event.Take conn) line b s = tt
+event_played squeezes (event.Put conn at) line b s = absurd cc
+event_played squeezes (event.Finish conn) line b s = tt
+event_played squeezes (event.Cast at channel payload) line b s = within squeezes channel s.0 payload at.0 s.1.0.1 s.1.1
+event_played squeezes (event.Trim now retention batch) line b s = tt
+event_played squeezes (event.Ask node) line b s = absurd cc
+event_played squeezes (event.Read node) line b s = absurd cc
+event_played squeezes (event.Deliver node) line b s = absurd cc
+event_played squeezes (event.Beat node now) line b s = eqb-true node.0 1 b
+event_played squeezes event.Fault line b s = tt
 
-all_none : {X : Type 0} (P : X → Type 0) → All P []
-all_none P k d lt = absurd (omega arith)
+all_one : (e : Event) → IsPlayed e → All IsPlayed (e ∷ [])
+all_one e p = All-cons IsPlayed e [] p (All-nil IsPlayed)
 
-all_cons : {X : Type 0} (P : X → Type 0) (x : X) (xs : List X) → P x → All P xs → All P (x ∷ xs)
-all_cons P x xs p h zero d lt = p
-all_cons P x xs p h (suc k) d lt = h k d (omega arith)
-
-all_one : (book : Declared) (e : Event) → IsPlayed book e → All (IsPlayed book) (e ∷ [])
-all_one book e p = all_cons (IsPlayed book) e [] p (all_none (IsPlayed book))
-
-puts_played : (book : Declared) (n : ℕ) (e f : Event) → IsPlayed book e → IsPlayed book f → All (IsPlayed book) (replicate n e ++ f ∷ [])
-puts_played book zero e f p q = all_one book f q
-puts_played book (suc n) e f p q = all_cons (IsPlayed book) e (replicate n e ++ f ∷ []) p (puts_played book n e f p q)
+puts_played : (n : ℕ) (e f : Event) → IsPlayed e → IsPlayed f → All IsPlayed (replicate n e ++ f ∷ [])
+puts_played zero e f p q = all_one f q
+puts_played (suc n) e f p q = All-cons IsPlayed e (replicate n e ++ f ∷ []) p (puts_played n e f p q)
 
 length-puts : (n : ℕ) (e f : Event) → length (replicate n e ++ f ∷ []) ≡ n + 1
 length-puts zero e f = refl
 length-puts (suc n) e f = omega (arith, length-puts n e f)
 
-pub built_few : (book : Declared) (v : Verb) → is_built_verb book v ≡ true → length (expand v) ≤ 1002
-built_few book (One e) b = omega arith
-built_few book (Work conn at puts) b = omega (arith, length-puts puts (event.Put conn at) (event.Finish conn), leb-true _ _ b)
-built_few book (Poll node) b = omega arith
+built_few : (v : Verb) → is_built_verb v ≡ true → length (expand v) ≤ 1002
+built_few (One e) b = omega arith
+built_few (Work conn at puts) b = omega (arith, length-puts puts (event.Put conn at) (event.Finish conn), leb-true _ _ b)
+built_few (Poll node) b = omega arith
 
-pub built_played : (book : Declared) (v : Verb) → is_built_verb book v ≡ true → All (IsPlayed book) (expand v)
-built_played book (One e) b = all_one book e (event_played book e b)
-built_played book (Work conn at puts) b =
-    all_cons (IsPlayed book) (event.Take conn) (replicate puts (event.Put conn at) ++ event.Finish conn ∷ []) tt (puts_played book puts (event.Put conn at) (event.Finish conn) tt tt)
-built_played book (Poll node) b = absurd cc
+built_each : Squeezes → (v : Verb) (line : List ℕ) → is_built_verb v ≡ true → Spells v line → All IsPlayed (expand v)
+built_each squeezes (One e) line b s = all_one e (event_played squeezes e line b s)
+built_each squeezes (Work conn at puts) line b s =
+    All-cons IsPlayed (event.Take conn) (replicate puts (event.Put conn at) ++ event.Finish conn ∷ []) tt (puts_played puts (event.Put conn at) (event.Finish conn) tt tt)
+built_each squeezes (Poll node) line b s = absurd cc
+
+-- lines that spell built verbs are played
+pub all_played : Squeezes → (vs : List Verb) (lines : List (List ℕ)) → AllSpell vs lines → list_all is_built_verb vs ≡ true → All IsPlayedLine vs
+all_played squeezes [] lines s b = All-nil IsPlayedLine
+all_played squeezes (v ∷ vs) [] s b = absurd s
+all_played squeezes (v ∷ vs) (line ∷ lines) s b =
+    let h = and_parts _ _ b in
+    All-cons IsPlayedLine v vs (record { few = built_few v h.0; each = built_each squeezes v line h.0 s.1 }) (all_played squeezes vs lines s.2 h.1)

@@ -1,194 +1,241 @@
--- A session's texts, takes and finishes are the model's.
-use Rattle.std.proofs.Common.{◌≡◌, ℕ, zero, suc, ◌+◌, ◌-◌, ◌<◌, Bool, true, false, not, cond, List, [], ◌∷◌, ◌++◌, length, Option, Some, None, Ok, refl, sym, ap, subst, ◌∙◌, arith}
-use Rattle.std.specs.Prelude.{ltb, is_some, slice_get}
-use Rattle.std.proofs.lemmas.Bool.{ltb-true, and_parts}
+-- Each event that a session steps is the model's.
+use Rattle.std.proofs.Common.{◌≡◌, ℕ, ◌==◌, Bool, true, false, ◌&&◌, ◌||◌, not, cond, List, [], ◌∷◌, map, Option, Some, None, refl, sym, ap, subst, ◌∙◌, arith}
+use Rattle.std.specs.Prelude.{is_some, is_none, ltb, leb}
 use Rattle.std.proofs.lemmas.Bool.Decides.{nat_tests}
-use Rattle.std.proofs.lemmas.List.{length-append}
-use Rattle.cable_base.specs.declared.numbers.Millis.{Millis}
-use Rattle.channel_book.specs.Shapes.{Declared}
-use Rattle.cable_model.specs.Script.{callbacks_of, rules_of}
-use Rattle.replay_cli.proofs.SubscribePlans.{plan-plain}
-use Rattle.cable_base.specs.declared.numbers.RowId.{RowId}
+use Rattle.std.proofs.lemmas.Bool.{and_parts}
+use Rattle.cable_base.specs.declared.numbers.ConnNo.{ConnNo}
 use Rattle.cable_json.specs.Commands.{command_of}
-use Rattle.cable_json.specs.declared.commands.Command.TheVariants.{Subscribe}
-use Rattle.cable_model.specs.declared.events.Event.{Event}
 use Rattle.cable_model.specs.declared.events.Event.TheVariants as event
 use Rattle.cable_model.specs.declared.notes.Note.TheVariants as note
-use Rattle.cable_model.specs.declared.plans.Plan.{Plan}
-use Rattle.cable_model.specs.Connection.{changed}
+use Rattle.cable_model.specs.declared.pieces.Piece.TheVariants as piece
+use Rattle.cable_model.specs.Limits.{most_connections}
 use Rattle.cable_model.specs.Steps.{Step}
-use Rattle.cable_model.specs.Plans.{plan_of}
-use Rattle.cable_model.specs.Possible.{can_arrive, can_take, can_put, can_finish, is_too_long, job_plan}
-use Rattle.cable_model.specs.History.{Rules, World, at_home, home_of, logged, with_puts, arrive, finish}
-use Rattle.cable_model.specs.Transcript.{conn_note, plan_lines}
-use Rattle.replay_cli.specs.declared.seats.Seat.{Seat}
-use Rattle.replay_cli.specs.declared.seats.Subscription.{Subscription}
-use Rattle.replay_cli.specs.declared.sessions.Said.{Said}
-use Rattle.replay_cli.specs.Seats.{piece_of, conn_of, job_in, IsTidy}
-use Rattle.replay_cli.specs.Sessions.{Held, Fits, FollowsWorld, StepsAs, Changes, may_take, may_finish, is_full, idle_said, silent_said}
-use Rattle.replay_cli.proofs.Subscribing.{arrives, busy_is, takes_is, seat-arrived, seat-taken, seat-finished, job_plan-subscribes, job_plan-none}
-use Rattle.replay_cli.proofs.Following.{idle_steps, possible_steps, conn_follows, apart}
+use Rattle.cable_model.specs.Table.{TableStep, last_id}
+use Rattle.cable_model.specs.Possible.{is_opened, is_receiving, live_count, is_booted, can_open, is_too_long, is_busy}
+use Rattle.cable_model.specs.History.{Rules, World, logged, with_home, at_number, arrive, happened}
+use Rattle.cable_model.specs.Transcript.{lines_of, conn_line, conn_note, ping_line, greeting, arrival_lines}
+use Rattle.cable_model.proofs.JobsStay.{opened-now}
+use Rattle.conn_seat.specs.Seats.{Becomes, with_piece}
+use Rattle.conn_seat.proofs.Answering.{answers}
+use Rattle.node_seats.specs.declared.opened.Opened.{Opened}
+use Rattle.node_seats.specs.declared.opened.Opened.TheVariants as kept
+use Rattle.node_seats.specs.Numbers.{Numbers, Rising, Moves, Lives, Stops, opened_at, live_among, receiving_among}
+use Rattle.node_seats.specs.AreSeats.{AreSeats}
+use Rattle.node_seats.proofs.Onward.{used-is, onward}
+use Rattle.node_seats.proofs.Counting.{live-count, receiving-all}
+use Rattle.node_seats.proofs.Entries.{texts, drops}
+use Rattle.node_seats.proofs.Opening.{opened-with, refused, stops}
+use Rattle.table_core.specs.Shown.{Shows}
+use Rattle.table_core.proofs.Following.{refusals_follow}
+use Rattle.replay_cli.specs.declared.saying.Said.{Said}
+use Rattle.replay_cli.specs.Sessions.{Held, home_on, FollowsWorld, StepsAs, OpensAs, receiving_at, is_busy_in, is_busy_at, may_open, idle_said, silent_said}
+use Rattle.replay_cli.proofs.Following.{idle_steps, possible_steps, comes, same-table, worked, home-some, home-is, at-some, receiving-at, LiveAt, live-receiving, one-entry}
 
--- what is known of a connection that stands
-pub fits_some : (h : Held) (w : World) (c : ℕ) (s : Seat) → FollowsWorld h w → h.seats c ≡ Some s → Fits (Some s) c (w.home c) (w.nodes 1)
-fits_some h w c s f at = subst (λ (o : Option Seat). Fits o c (w.home c) (w.nodes 1)) at (f.fits c)
+-- ---- a boot
 
-fits_none : (h : Held) (w : World) (c : ℕ) → FollowsWorld h w → h.seats c ≡ None → Fits None c (w.home c) (w.nodes 1)
-fits_none h w c f at = subst (λ (o : Option Seat). Fits o c (w.home c) (w.nodes 1)) at (f.fits c)
+pub boot_idle : (r : Rules) (h : Held) → h.booted ≡ true → StepsAs r (event.Boot (record { 0 = 1 })) h idle_said h
+boot_idle r h b = idle_steps r (event.Boot (record { 0 = 1 })) h h (λ w f. ap not (sym f.booted ∙ b)) (λ w f. f)
 
-at_home_some : (w : World) (c n : ℕ) (test : List Step → Bool) → w.home c ≡ Some n → at_home w c test ≡ test (w.nodes n)
-at_home_some w c n test e = rw (e, at_home) refl
+pub boot_steps : (r : Rules) (h h' : Held) → h.booted ≡ false → h'.booted ≡ true → h'.entries ≡ h.entries → h'.table ≡ h.table → StepsAs r (event.Boot (record { 0 = 1 })) h silent_said h'
+boot_steps r h h' b b' same t' =
+    possible_steps r (event.Boot (record { 0 = 1 })) h h' silent_said (λ w f. ap not (sym f.booted ∙ b)) refl (λ w f. refl)
+    (λ w f may. comes r h h' w (happened r w (event.Boot (record { 0 = 1 }))) (event.Boot (record { 0 = 1 })) f may refl
+    (record {
+      booted = b';
+      seats = subst (AreSeats (Step.Boot (last_id w.table) ∷ w.nodes 1)) (sym same)
+          (onward (w.nodes 1) (Step.Boot (last_id w.table) ∷ w.nodes 1) h.entries refl (λ c. record { user = refl; seated = refl; marked = refl }) f.seats);
+      home = f.home;
+      puts = f.puts;
+      turnless = f.turnless;
+      table = same-table h.table h'.table (TableStep.Boot 1 (last_id w.table) ∷ w.table) w.failing t' (record {
+        shows = subst (λ n. Shows h.table.keeper.rows h.table.last.0 (TableStep.Boot 1 n ∷ w.table)) f.table.shows.last_is
+            ((refusals_follow h.table.keeper.rows h.table.last.0 w.table f.table.shows).boot 1).shows;
+        unplanned = f.table.unplanned;
+        failing_is = f.table.failing_is;
+      });
+    }))
 
-at_home_none : (w : World) (c : ℕ) (test : List Step → Bool) → w.home c ≡ None → at_home w c test ≡ false
-at_home_none w c test e = rw (e, at_home) refl
+-- ---- a beat
 
-home_is : (w : World) (c n : ℕ) → w.home c ≡ Some n → home_of w c ≡ n
-home_is w c n e = rw e refl
+pub beat_idle : (r : Rules) (h : Held) (now : ℕ) → h.booted ≡ false → StepsAs r (event.Beat (record { 0 = 1 }) (record { 0 = now })) h idle_said h
+beat_idle r h now b = idle_steps r (event.Beat (record { 0 = 1 }) (record { 0 = now })) h h (λ w f. sym f.booted ∙ b) (λ w f. f)
 
--- ---- a text
+map-numbers : (now : ℕ) (cs : List ConnNo) → map (λ (c : ConnNo). ping_line now c.0) cs ≡ map (ping_line now) (map (λ (c : ConnNo). c.0) cs)
+map-numbers now [] = refl
+map-numbers now (c ∷ cs) = ap (λ ls. ping_line now c.0 ∷ ls) (map-numbers now cs)
 
-pub arrive_idle : (r : Rules) (h : Held) (c : ℕ) (text : List ℕ) → h.seats c ≡ None → StepsAs r (event.In (record { 0 = c }) text) h idle_said h
-arrive_idle r h c text at = idle_steps r (event.In (record { 0 = c }) text) h (λ w f. at_home_none w c (can_arrive c) (fits_none h w c f at).0)
+pub beat_steps : (r : Rules) (h : Held) (now : ℕ) (s : Said) → h.booted ≡ true → s ≡ record { idle = false; lines = map (λ (c : ConnNo). ping_line now c.0) (receiving_among h.entries) }
+    → StepsAs r (event.Beat (record { 0 = 1 }) (record { 0 = now })) h s h
+beat_steps r h now s b is =
+    possible_steps r (event.Beat (record { 0 = 1 }) (record { 0 = now })) h h s (λ w f. sym f.booted ∙ b) (ap (λ (x : Said). x.idle) is)
+    (λ w f. ap (λ (x : Said). x.lines) is ∙ map-numbers now (receiving_among h.entries) ∙ ap (map (ping_line now)) (receiving-all (w.nodes 1) h.entries (worked r h w f) f.seats))
+    (λ w f may. comes r h h w (logged w 1 (Step.Beat now)) (event.Beat (record { 0 = 1 }) (record { 0 = now })) f may refl
+    (record {
+      booted = b;
+      seats = onward (w.nodes 1) (Step.Beat now ∷ w.nodes 1) h.entries refl (λ c. record { user = refl; seated = refl; marked = refl }) f.seats;
+      home = f.home;
+      puts = f.puts;
+      turnless = f.turnless;
+      table = f.table;
+    }))
 
-arrive_possible : (h : Held) (w : World) (c : ℕ) (s : Seat) → FollowsWorld h w → h.seats c ≡ Some s → at_home w c (can_arrive c) ≡ true
-arrive_possible h w c s f at = let g = fits_some h w c s f at in at_home_some w c 1 (can_arrive c) g.0 ∙ arrives c (w.nodes 1) s.user s g.1 g.2
+-- ---- a stop
 
--- a text that is too long is noted, and nothing comes of it
-pub arrive_too_long : (r : Rules) (h : Held) (c : ℕ) (text : List ℕ) (s : Seat) (said_is : Said) → h.seats c ≡ Some s → is_too_long text ≡ true
-    → said_is ≡ record { idle = false; lines = conn_note c note.TooLong ∷ [] } → StepsAs r (event.In (record { 0 = c }) text) h said_is h
-arrive_too_long r h c text s said_is at long is =
-    possible_steps r (event.In (record { 0 = c }) text) h h said_is (λ w f. arrive_possible h w c s f at) (rw is refl) (λ w f. rw (is, long) refl)
-    (λ w f. let g = fits_some h w c s f at in rw (arrives c (w.nodes (home_of w c)) s.user s (rw g.0 g.1) (rw g.0 g.2), long) f)
+pub stop_idle : (r : Rules) (h : Held) → h.booted ≡ false → StepsAs r (event.Stop (record { 0 = 1 })) h idle_said h
+stop_idle r h b = idle_steps r (event.Stop (record { 0 = 1 })) h h (λ w f. sym f.booted ∙ b) (λ w f. f)
 
-pub arrive_busy : (r : Rules) (h : Held) (c : ℕ) (text : List ℕ) (s : Seat) (said_is : Said) → h.seats c ≡ Some s → is_too_long text ≡ false → is_full (Some s) ≡ true
-    → said_is ≡ record { idle = false; lines = conn_note c note.Busy ∷ [] } → StepsAs r (event.In (record { 0 = c }) text) h said_is h
-arrive_busy r h c text s said_is at short full is =
-    possible_steps r (event.In (record { 0 = c }) text) h h said_is (λ w f. arrive_possible h w c s f at) (rw is refl)
-    (λ w f. let g = fits_some h w c s f at in rw (is, short, busy_is c (w.nodes (home_of w c)) s (rw g.0 g.2), full) refl)
-    (λ w f. let g = fits_some h w c s f at in rw (arrives c (w.nodes (home_of w c)) s.user s (rw g.0 g.1) (rw g.0 g.2), short, busy_is c (w.nodes (home_of w c)) s (rw g.0 g.2), full) f)
+pub stop_steps : (r : Rules) (h h' : Held) → h.booted ≡ true → h'.booted ≡ h.booted → h'.table ≡ h.table → Stops h.entries h'.entries → StepsAs r (event.Stop (record { 0 = 1 })) h silent_said h'
+stop_steps r h h' b b' t' stopped =
+    possible_steps r (event.Stop (record { 0 = 1 })) h h' silent_said (λ w f. sym f.booted ∙ b) refl (λ w f. refl)
+    (λ w f may. comes r h h' w (logged w 1 Step.Stop) (event.Stop (record { 0 = 1 })) f may refl
+    (record {
+      booted = b' ∙ b;
+      seats = stops (w.nodes 1) h.entries h'.entries (worked r h w f) f.seats stopped;
+      home = f.home;
+      puts = f.puts;
+      turnless = f.turnless;
+      table = same-table h.table h'.table w.table w.failing t' f.table;
+    }))
 
-arrived_tidy : (s s' : Seat) (id : List ℕ) → IsTidy s → s' ≡ record s { subscribes = s.subscribes ++ id ∷ [] } → IsTidy s'
-arrived_tidy s s' id t is = subst IsTidy (sym is) (record { done = t.done; taken = omega (arith, t.taken, length-append s.subscribes (id ∷ [])) })
+-- ---- a text, and a client that goes
 
--- a subscribe is put
-pub arrive_steps : (r : Rules) (h h' : Held) (c : ℕ) (text id : List ℕ) (s s' : Seat) → h.seats c ≡ Some s → is_too_long text ≡ false → is_full (Some s) ≡ false
-    → command_of text ≡ Ok (Subscribe id) → s' ≡ record s { subscribes = s.subscribes ++ id ∷ [] } → h'.booted ≡ h.booted → Changes h.seats h'.seats c (Some s') → h'.count ≡ h.count
-    → StepsAs r (event.In (record { 0 = c }) text) h silent_said h'
-arrive_steps r h h' c text id s s' at short room command is booted change count =
-    possible_steps r (event.In (record { 0 = c }) text) h h' silent_said (λ w f. arrive_possible h w c s f at) refl
-    (λ w f. let g = fits_some h w c s f at in rw (short, busy_is c (w.nodes (home_of w c)) s (rw g.0 g.2), room) refl)
-    (λ w f.
-    let g = fits_some h w c s f at in
-    subst (λ (n : ℕ). FollowsWorld h' (arrive w n c text)) (sym (home_is w c 1 g.0))
-    (rw (arrives c (w.nodes 1) s.user s g.1 g.2, short, busy_is c (w.nodes 1) s g.2, room)
-    (conn_follows h h' w.home (w.nodes 1) c s s' (Step.In c text) f at change booted count (ap (λ (x : Seat). x.user) is) (arrived_tidy s s' id g.3 is)
-    (seat-arrived c (w.nodes 1) s s' text id g.2 command is) refl (λ d. refl) (λ d ne. let t = apart c d ne in rw t.0 refl))))
+pub arrive_idle : (r : Rules) (h : Held) (c : ConnNo) (text : List ℕ) → receiving_at c.0 h.entries ≡ false → StepsAs r (event.In c text) h idle_said h
+arrive_idle r h c text no_one = idle_steps r (event.In c text) h h (λ w f. sym (receiving-at r h w c.0 f) ∙ no_one) (λ w f. f)
 
--- ---- a take
+pub drop_idle : (r : Rules) (h : Held) (c : ConnNo) → receiving_at c.0 h.entries ≡ false → StepsAs r (event.Drop c) h idle_said h
+drop_idle r h c no_one = idle_steps r (event.Drop c) h h (λ w f. sym (receiving-at r h w c.0 f) ∙ no_one) (λ w f. f)
 
-abbrev take_event : ℕ → Event
-take_event c = event.Take (record { 0 = c })
+pub drop_steps : (r : Rules) (h h' : Held) (c : ConnNo) → receiving_at c.0 h.entries ≡ true → h'.booted ≡ h.booted → h'.table ≡ h.table
+    → Moves c.0 (Lives (λ s t. Becomes (with_piece piece.Gone s) t)) h.entries h'.entries → StepsAs r (event.Drop c) h silent_said h'
+drop_steps r h h' c some b' t' m =
+    let l = live-receiving c.0 h.entries some in
+    possible_steps r (event.Drop c) h h' silent_said (λ w f. sym (receiving-at r h w c.0 f) ∙ some) refl (λ w f. refl)
+    (λ w f may. comes r h h' w (logged w 1 (Step.Drop c.0)) (event.Drop c) f may
+    (ap (λ n. logged w n (Step.Drop c.0)) (home-is w c.0 (home-some r h w c.0 (kept.Live l.seated) f l.found)))
+    (one-entry r h h' w c.0 l.seated (Step.Drop c.0) f l.found b' t' refl f.turnless (drops c.0 (w.nodes 1) h.entries h'.entries (worked r h w f) f.seats m)))
 
-take_possible : (h : Held) (w : World) (c : ℕ) → FollowsWorld h w → at_home w c (can_take c) ≡ may_take (h.seats c)
-take_possible h w c f = by_seat (h.seats c) (f.fits c)
+busy-is : (r : Rules) (h : Held) (w : World) (c : ℕ) (l : LiveAt c h.entries) → FollowsWorld r h w → is_busy_at c h.entries ≡ is_busy c (w.nodes 1)
+busy-is r h w c l f =
+    let s = f.seats.each c (kept.Live l.seated) l.found in
+    let pl = worked r h w f c l.seated.user s.0.user in
+    ap (λ (o : Option Opened). is_busy_in (elim o [ None ↦ None | Some k ↦ elim k [ kept.Live x ↦ Some x | kept.Over ↦ None ] ])) l.found
+    ∙ ap (leb 256) (answers pl.0 c (w.nodes 1) l.seated pl.1 s.0).commands
+
+-- the lines of a text that arrives
+lines-at : (r : Rules) (h : Held) (w : World) (c : ConnNo) (text : List ℕ) (l : LiveAt c.0 h.entries) → FollowsWorld r h w
+    → lines_of r w (event.In c text) ≡ cond (is_too_long text) (conn_note c.0 note.TooLong ∷ []) (cond (is_busy_at c.0 h.entries) (conn_note c.0 note.Busy ∷ []) [])
+lines-at r h w c text l f =
+    ap (λ n. arrival_lines c.0 text (w.nodes n)) (home-is w c.0 (home-some r h w c.0 (kept.Live l.seated) f l.found))
+    ∙ ap (λ b. cond (is_too_long text) (conn_note c.0 note.TooLong ∷ []) (cond b (conn_note c.0 note.Busy ∷ []) [])) (sym (busy-is r h w c.0 l f))
+
+-- whether it is put
+put-at : (r : Rules) (h : Held) (w : World) (c : ConnNo) (text : List ℕ) (l : LiveAt c.0 h.entries) → receiving_at c.0 h.entries ≡ true → FollowsWorld r h w
+    → happened r w (event.In c text) ≡ cond (not (is_too_long text) && not (is_busy_at c.0 h.entries)) (logged w 1 (Step.In c.0 text)) w
+put-at r h w c text l some f =
+    let home = home-some r h w c.0 (kept.Live l.seated) f l.found in
+    let live : is_receiving c.0 (w.nodes 1) ≡ true = sym (at-some w c.0 (is_receiving c.0) home) ∙ sym (receiving-at r h w c.0 f) ∙ some in
+    ap (λ n. arrive w n c.0 text) (home-is w c.0 home)
+    ∙ ap (λ b. cond (b && not (is_too_long text) && not (is_busy c.0 (w.nodes 1))) (logged w 1 (Step.In c.0 text)) w) live
+    ∙ ap (λ b. cond (not (is_too_long text) && not b) (logged w 1 (Step.In c.0 text)) w) (sym (busy-is r h w c.0 l f))
+
+-- one that is noted leaves the world as it was
+noted : (r : Rules) (h : Held) (c : ConnNo) (text : List ℕ) (s : Said) (long busy : Bool) → is_too_long text ≡ long → is_busy_at c.0 h.entries ≡ busy → (not long && not busy) ≡ false
+    → receiving_at c.0 h.entries ≡ true → s ≡ record { idle = false; lines = cond long (conn_note c.0 note.TooLong ∷ []) (cond busy (conn_note c.0 note.Busy ∷ []) []) } → StepsAs r (event.In c text) h s h
+noted r h c text s long busy long_is busy_is stays some is =
+    let l = live-receiving c.0 h.entries some in
+    possible_steps r (event.In c text) h h s (λ w f. sym (receiving-at r h w c.0 f) ∙ some) (ap (λ (x : Said). x.idle) is)
+    (λ w f. ap (λ (x : Said). x.lines) is
+    ∙ sym (lines-at r h w c text l f
+    ∙ ap (λ b. cond b (conn_note c.0 note.TooLong ∷ []) (cond (is_busy_at c.0 h.entries) (conn_note c.0 note.Busy ∷ []) [])) long_is
+    ∙ ap (λ b. cond long (conn_note c.0 note.TooLong ∷ []) (cond b (conn_note c.0 note.Busy ∷ []) [])) busy_is))
+    (λ w f may. comes r h h w w (event.In c text) f may
+    (put-at r h w c text l some f
+    ∙ ap (λ b. cond (not b && not (is_busy_at c.0 h.entries)) (logged w 1 (Step.In c.0 text)) w) long_is
+    ∙ ap (λ b. cond (not long && not b) (logged w 1 (Step.In c.0 text)) w) busy_is
+    ∙ ap (λ b. cond b (logged w 1 (Step.In c.0 text)) w) stays)
+    (record { booted = f.booted; seats = f.seats; home = f.home; puts = f.puts; turnless = f.turnless; table = f.table }))
+
+pub arrive_too_long : (r : Rules) (h : Held) (c : ConnNo) (text : List ℕ) (s : Said) → receiving_at c.0 h.entries ≡ true → is_too_long text ≡ true
+    → s ≡ record { idle = false; lines = conn_note c.0 note.TooLong ∷ [] } → StepsAs r (event.In c text) h s h
+arrive_too_long r h c text s some long is = noted r h c text s true (is_busy_at c.0 h.entries) long refl refl some is
+
+pub arrive_busy : (r : Rules) (h : Held) (c : ConnNo) (text : List ℕ) (s : Said) → receiving_at c.0 h.entries ≡ true → is_too_long text ≡ false → is_busy_at c.0 h.entries ≡ true
+    → s ≡ record { idle = false; lines = conn_note c.0 note.Busy ∷ [] } → StepsAs r (event.In c text) h s h
+arrive_busy r h c text s some short busy is = noted r h c text s false true short busy refl some is
+
+pub arrive_steps : (r : Rules) (h h' : Held) (c : ConnNo) (text : List ℕ) → receiving_at c.0 h.entries ≡ true → is_too_long text ≡ false → is_busy_at c.0 h.entries ≡ false → h'.booted ≡ h.booted → h'.table ≡ h.table
+    → Moves c.0 (Lives (λ s t. Becomes (with_piece (piece.Cmd (command_of text)) s) t)) h.entries h'.entries → StepsAs r (event.In c text) h silent_said h'
+arrive_steps r h h' c text some short free b' t' m =
+    let l = live-receiving c.0 h.entries some in
+    possible_steps r (event.In c text) h h' silent_said (λ w f. sym (receiving-at r h w c.0 f) ∙ some) refl
+    (λ w f. sym (lines-at r h w c text l f
+    ∙ ap (λ b. cond b (conn_note c.0 note.TooLong ∷ []) (cond (is_busy_at c.0 h.entries) (conn_note c.0 note.Busy ∷ []) [])) short
+    ∙ ap (λ b. cond b (conn_note c.0 note.Busy ∷ []) []) free))
+    (λ w f may. comes r h h' w (logged w 1 (Step.In c.0 text)) (event.In c text) f may
+    (put-at r h w c text l some f
+    ∙ ap (λ b. cond (not b && not (is_busy_at c.0 h.entries)) (logged w 1 (Step.In c.0 text)) w) short
+    ∙ ap (λ b. cond (not b) (logged w 1 (Step.In c.0 text)) w) free)
+    (one-entry r h h' w c.0 l.seated (Step.In c.0 text) f l.found b' t' refl f.turnless (texts c.0 text (w.nodes 1) h.entries h'.entries (worked r h w f) f.seats m)))
+
+-- ---- an open
+
+may-open : (r : Rules) (h : Held) (w : World) (c : ℕ) → FollowsWorld r h w → may_open h c ≡ (is_none (w.home c) && can_open c (w.nodes 1))
+may-open r h w c f =
+    ap (λ b. b && not (is_some (opened_at c h.entries)) && ltb (live_among h.entries) most_connections) f.booted
+    ∙ ap (λ b. is_booted (w.nodes 1) && not b && ltb (live_among h.entries) most_connections) (used-is (w.nodes 1) h.entries c f.seats)
+    ∙ ap (λ n. is_booted (w.nodes 1) && not (is_opened c (w.nodes 1)) && ltb n most_connections) (live-count (w.nodes 1) h.entries f.seats)
+    ∙ by-opened (is_booted (w.nodes 1)) (is_opened c (w.nodes 1)) (ltb (live_count (w.nodes 1)) most_connections)
+    ∙ ap (λ o. is_none o && can_open c (w.nodes 1)) (sym (f.home c))
   where
-    by_seat : (o : Option Seat) → Fits o c (w.home c) (w.nodes 1) → at_home w c (can_take c) ≡ may_take o
-    by_seat None g = at_home_none w c (can_take c) g.0
-    by_seat (Some s) g = at_home_some w c 1 (can_take c) g.0 ∙ takes_is c (w.nodes 1) s.user s g.1 g.2
+    by-opened : (b o l : Bool) → (b && not o && l) ≡ (is_none {T = ℕ} (cond o (Some 1) None) && (b && not o && l))
+    by-opened b false l = refl
+    by-opened true true l = refl
+    by-opened false true l = refl
 
-pub take_idle : (r : Rules) (h : Held) (c : ℕ) → may_take (h.seats c) ≡ false → StepsAs r (event.Take (record { 0 = c })) h idle_said h
-take_idle r h c shut = idle_steps r (take_event c) h (λ w f. take_possible h w c f ∙ shut)
+pub open_idle : (r : Rules) (h : Held) (c : ConnNo) (token : List ℕ) → may_open h c.0 ≡ false → StepsAs r (event.Open (record { 0 = 1 }) c token) h idle_said h
+open_idle r h c token shut = idle_steps r (event.Open (record { 0 = 1 }) c token) h h (λ w f. sym (may-open r h w c.0 f) ∙ shut) (λ w f. f)
 
-taken_tidy : (s s' : Seat) → IsTidy s → s.taken < length s.subscribes → s' ≡ record s { taken = s.taken + 1 } → IsTidy s'
-taken_tidy s s' t lt is = subst IsTidy (sym is) (record { done = omega (arith, t.done); taken = omega arith })
+-- what may_open says
+pub record MayOpen (h : Held) (c : ℕ) : Type 0 where
+  pub booted : h.booted ≡ true
+  pub unused : is_some (opened_at c h.entries) ≡ false
+  pub room : ltb (live_among h.entries) most_connections ≡ true
 
-pub take_steps : (r : Rules) (h h' : Held) (c : ℕ) (s s' : Seat) → h.seats c ≡ Some s → may_take (Some s) ≡ true → s' ≡ record s { taken = s.taken + 1 }
-    → h'.booted ≡ h.booted → Changes h.seats h'.seats c (Some s') → h'.count ≡ h.count → StepsAs r (event.Take (record { 0 = c })) h silent_said h'
-take_steps r h h' c s s' at free is booted change count =
-    let parts : (not (ltb s.done s.taken) ≡ true) × (ltb 0 (length s.subscribes - s.taken) ≡ true) = and_parts (not (ltb s.done s.taken)) (ltb 0 (length s.subscribes - s.taken)) free in
-    let some : 0 < length s.subscribes - s.taken = ltb-true 0 (length s.subscribes - s.taken) parts.1 in
-    let lt : s.taken < length s.subscribes = omega arith in
-    possible_steps r (take_event c) h h' silent_said (λ w f. take_possible h w c f ∙ rw at free) refl (λ w f. refl)
-    (λ w f.
-    let g = fits_some h w c s f at in
-    subst (λ (n : ℕ). FollowsWorld h' (with_puts (logged w n (Step.Take c)) c [])) (sym (home_is w c 1 g.0))
-    (conn_follows h h' w.home (w.nodes 1) c s s' (Step.Take c) f at change booted count (ap (λ (x : Seat). x.user) is) (taken_tidy s s' g.3 lt is)
-    (seat-taken c (w.nodes 1) s s' g.2 lt is) refl (λ d. refl) (λ d ne. let t = apart c d ne in rw t.0 refl)))
+not-true : (b : Bool) → not b ≡ true → b ≡ false
+not-true false e = refl
+not-true true e = absurd cc
 
--- ---- a put and a finish. No plan has casts
+pub may-open-parts : (h : Held) (c : ℕ) → may_open h c ≡ true → MayOpen h c
+may-open-parts h c e =
+    let outer = and_parts _ _ e in
+    let inner = and_parts _ _ outer.0 in
+    record { booted = inner.0; unused = not-true (is_some (opened_at c h.entries)) inner.1; room = outer.1 }
 
-never_below : (n : ℕ) → ltb n 0 ≡ false
-never_below n = grind (arith, nat_tests)
+opens-as : (c : ℕ) (token : List ℕ) (user : Option (List ℕ)) (past : List Step) (v new : Numbers) → AreSeats past v → is_opened c past ≡ false → OpensAs c user v new → Rising new
+    → AreSeats (Step.Open c token user ∷ past) new
+opens-as c token None past v new a free now rising = refused c token past v new a free now rising
+opens-as c token (Some user) past v new a free s rising = opened-with c token user past v new s.0 a free s.1 s.2 rising
 
-slice_get_some : (xs : List (List ℕ)) (i : ℕ) → i < length xs → (x : List ℕ) × (slice_get xs i ≡ Some x)
-slice_get_some [] i lt = absurd (omega arith)
-slice_get_some (x ∷ xs) zero lt = (x, refl)
-slice_get_some (x ∷ xs) (suc i) lt = slice_get_some xs i (omega arith)
-
--- the job's subscribe
-pub job_of : (s : Seat) → IsTidy s → ltb s.done s.taken ≡ true → (id : List ℕ) × (slice_get s.subscribes (s.taken - 1) ≡ Some id)
-job_of s t out = let lt : s.done < s.taken = ltb-true _ _ out in slice_get_some s.subscribes (s.taken - 1) (omega (arith, t.taken))
-
-abbrev pub job_plan_of : Declared → Seat → List ℕ → Plan
-job_plan_of book s id = plan_of (callbacks_of book) s.user (conn_of s.subs) (piece_of id)
-
-put_shut : (book : Declared) (c : ℕ) (puts : List (Option RowId)) (past : List Step) (home : Option ℕ) (s : Seat) → Fits (Some s) c home past → (b : Bool) → ltb s.done s.taken ≡ b → can_put (callbacks_of book) c puts past ≡ false
-put_shut book c puts past home s g true out =
-    let j = job_of s g.3 out in
-    rw (job_plan-subscribes (callbacks_of book) c past s.user s j.0 g.1 g.2 out j.1, (plan-plain book s.user s.subs j.0).casts) (never_below (length puts))
-put_shut book c puts past home s g false out = rw (job_plan-none (callbacks_of book) c past s g.2 out) refl
-
-pub put_idle : (book : Declared) (h : Held) (c : ℕ) (at : Millis) → StepsAs (rules_of book) (event.Put (record { 0 = c }) at) h idle_said h
-put_idle book h c at = idle_steps (rules_of book) (event.Put (record { 0 = c }) at) h (λ w f. by_seat w (h.seats c) (f.fits c))
+home-now : (w : World) (c : ℕ) (token : List ℕ) (user : Option (List ℕ)) → ((d : ℕ) → w.home d ≡ home_on d (w.nodes 1)) → (d : ℕ)
+    → at_number c (Some 1) w.home d ≡ home_on d (Step.Open c token user ∷ w.nodes 1)
+home-now w c token user h d = by-test (d == c) refl ∙ sym (ap (λ b. cond b (Some 1) None) (opened-now d c token user (w.nodes 1)))
   where
-    by_seat : (w : World) (o : Option Seat) → Fits o c (w.home c) (w.nodes 1) → at_home w c (can_put (callbacks_of book) c (w.puts c)) ≡ false
-    by_seat w None g = at_home_none w c (can_put (callbacks_of book) c (w.puts c)) g.0
-    by_seat w (Some s) g = at_home_some w c 1 (can_put (callbacks_of book) c (w.puts c)) g.0 ∙ put_shut book c (w.puts c) (w.nodes 1) (w.home c) s g (ltb s.done s.taken) refl
+    by-test : (b : Bool) → (d == c) ≡ b → cond b (Some 1) (w.home d) ≡ cond ((c == d) || is_opened d (w.nodes 1)) (Some 1) None
+    by-test true e = let t : (c == d) ≡ true = grind (arith, nat_tests) in rw t refl
+    by-test false e = let t : (c == d) ≡ false = grind (arith, nat_tests) in rw t (h d)
 
-abbrev finish_event : ℕ → Event
-finish_event c = event.Finish (record { 0 = c })
-
-finish_open : (book : Declared) (c : ℕ) (puts : List (Option RowId)) (past : List Step) (home : Option ℕ) (s : Seat) → Fits (Some s) c home past → (b : Bool) → ltb s.done s.taken ≡ b → can_finish (callbacks_of book) c puts past ≡ is_some (job_in s)
-finish_open book c puts past home s g true out =
-    let j = job_of s g.3 out in
-    rw (job_plan-subscribes (callbacks_of book) c past s.user s j.0 g.1 g.2 out j.1, (plan-plain book s.user s.subs j.0).casts, never_below (length puts), out, j.1) refl
-finish_open book c puts past home s g false out = rw (job_plan-none (callbacks_of book) c past s g.2 out, out) refl
-
--- what a job says
-record JobIn (s : Seat) (id : List ℕ) : Type 0 where
-  out : ltb s.done s.taken ≡ true
-  at : slice_get s.subscribes (s.taken - 1) ≡ Some id
-
-job_in_parts : (s : Seat) (id : List ℕ) → job_in s ≡ Some id → JobIn s id
-job_in_parts s id e = by_test (ltb s.done s.taken) refl e
-  where
-    by_test : (b : Bool) → ltb s.done s.taken ≡ b → cond b (slice_get s.subscribes (s.taken - 1)) None ≡ Some id → JobIn s id
-    by_test true out at = record { out = out; at = at }
-    by_test false out at = absurd cc
-
-finish_possible : (book : Declared) (h : Held) (w : World) (c : ℕ) → FollowsWorld h w → at_home w c (can_finish (callbacks_of book) c (w.puts c)) ≡ may_finish (h.seats c)
-finish_possible book h w c f = by_seat (h.seats c) (f.fits c)
-  where
-    by_seat : (o : Option Seat) → Fits o c (w.home c) (w.nodes 1) → at_home w c (can_finish (callbacks_of book) c (w.puts c)) ≡ may_finish o
-    by_seat None g = at_home_none w c (can_finish (callbacks_of book) c (w.puts c)) g.0
-    by_seat (Some s) g = at_home_some w c 1 (can_finish (callbacks_of book) c (w.puts c)) g.0 ∙ finish_open book c (w.puts c) (w.nodes 1) (w.home c) s g (ltb s.done s.taken) refl
-
-pub finish_idle : (book : Declared) (h : Held) (c : ℕ) → may_finish (h.seats c) ≡ false → StepsAs (rules_of book) (event.Finish (record { 0 = c })) h idle_said h
-finish_idle book h c shut = idle_steps (rules_of book) (finish_event c) h (λ w f. finish_possible book h w c f ∙ shut)
-
-finished_tidy : (s s' : Seat) (subs : List Subscription) → IsTidy s → s' ≡ record s { done = s.taken; subs = subs } → IsTidy s'
-finished_tidy s s' subs t is = subst IsTidy (sym is) (record { done = omega arith; taken = t.taken })
-
-pub finish_steps : (book : Declared) (h h' : Held) (c : ℕ) (s s' : Seat) (id : List ℕ) (subs : List Subscription) (said_is : Said) → h.seats c ≡ Some s → job_in s ≡ Some id → conn_of subs ≡ changed (job_plan_of book s id).change s.taken (conn_of s.subs) → s' ≡ record s { done = s.taken; subs = subs }
-    → h'.booted ≡ h.booted → Changes h.seats h'.seats c (Some s') → h'.count ≡ h.count
-    → said_is ≡ record { idle = false; lines = plan_lines c (job_plan_of book s id) } → StepsAs (rules_of book) (event.Finish (record { 0 = c })) h said_is h'
-finish_steps book h h' c s s' id subs said_is at job change_is is booted change count said_as =
-    let j = job_in_parts s id job in
-    possible_steps (rules_of book) (finish_event c) h h' said_is (λ w f. finish_possible book h w c f ∙ rw (at, job) refl) (rw said_as refl)
-    (λ w f. let g = fits_some h w c s f at in rw (said_as, job_plan-subscribes (callbacks_of book) c (w.nodes (home_of w c)) s.user s id (rw g.0 g.1) (rw g.0 g.2) j.out j.at) refl)
-    (λ w f.
-    let g = fits_some h w c s f at in
-    subst (λ (n : ℕ). FollowsWorld h' (finish w n c (job_plan (callbacks_of book) c (w.nodes n)))) (sym (home_is w c 1 g.0))
-    (rw (job_plan-subscribes (callbacks_of book) c (w.nodes 1) s.user s id g.1 g.2 j.out j.at)
-    (conn_follows h h' w.home (w.nodes 1) c s s' (Step.Finish c (w.puts c) (job_plan_of book s id)) f at change booted count (ap (λ (x : Seat). x.user) is) (finished_tidy s s' subs g.3 is)
-    (seat-finished c (w.nodes 1) s s' (job_plan_of book s id) (w.puts c) subs g.2 change_is is) refl (λ d. refl) (λ d ne. let t = apart c d ne in rw t.0 refl))))
+pub open_steps : (r : Rules) (h h' : Held) (c : ConnNo) (token : List ℕ) (s : Said) → may_open h c.0 ≡ true → h'.booted ≡ h.booted → h'.table ≡ h.table → OpensAs c.0 (r.callbacks.identify token) h.entries h'.entries
+    → Rising h'.entries → s ≡ record { idle = false; lines = conn_line c.0 (greeting (r.callbacks.identify token)) ∷ [] } → StepsAs r (event.Open (record { 0 = 1 }) c token) h s h'
+open_steps r h h' c token s free b' t' opens rising is =
+    let parts = may-open-parts h c.0 free in
+    let user = r.callbacks.identify token in
+    possible_steps r (event.Open (record { 0 = 1 }) c token) h h' s (λ w f. sym (may-open r h w c.0 f) ∙ free) (ap (λ (x : Said). x.idle) is) (λ w f. ap (λ (x : Said). x.lines) is)
+    (λ w f may. comes r h h' w (with_home (logged w 1 (Step.Open c.0 token user)) c.0 1) (event.Open (record { 0 = 1 }) c token) f may refl
+    (record {
+      booted = b' ∙ parts.booted;
+      seats = opens-as c.0 token user (w.nodes 1) h.entries h'.entries f.seats (sym (used-is (w.nodes 1) h.entries c.0 f.seats) ∙ parts.unused) opens rising;
+      home = home-now w c.0 token user f.home;
+      puts = f.puts;
+      turnless = f.turnless;
+      table = same-table h.table h'.table w.table w.failing t' f.table;
+    }))

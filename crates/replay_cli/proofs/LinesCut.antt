@@ -5,12 +5,11 @@ use Rattle.std.specs.List.{onto_first, position_or_len, before_first, after_firs
 use Rattle.std.proofs.lemmas.Bool.{ltb-true, ltb-false}
 use Rattle.std.proofs.lemmas.List.Splits.{slice_split_first, slice_split-cons_no}
 use Rattle.cable_model.specs.declared.verbs.Verb.{Verb}
-use Rattle.channel_book.specs.Shapes.{Declared}
-use Rattle.replay_cli.specs.Words.{◌>>=◌}
-use Rattle.replay_cli.specs.declared.lines.Unread.{Unread}
-use Rattle.replay_cli.specs.declared.lines.Unread.TheVariants as unread
+use Rattle.cable_script.specs.Words.{◌>>=◌}
+use Rattle.cable_script.proofs.Cuts.{cut_is, some_is}
+use Rattle.replay_cli.specs.declared.scripts.Unread.{Unread}
+use Rattle.replay_cli.specs.declared.scripts.Unread.TheVariants as unread
 use Rattle.replay_cli.specs.Reading.{Fails, Gives, is_feed, parts_of, first_line, built_verb_of, verbs_of}
-use Rattle.replay_cli.proofs.Cuts.{cut_is, some_is}
 
 -- the first line stands before the others
 pub parts-cut : (bytes line behind : List ℕ) → first_line bytes ≡ Some (line, behind) → parts_of bytes ≡ line ∷ parts_of behind
@@ -51,49 +50,49 @@ some_part (x ∷ xs) = by_test (is_feed x) (some_part xs)
     by_test false h = (x ∷ h.0, h.1, ap (onto_first x) h.2)
 
 -- a line that is read stands before the verbs of the rest
-pub verbs-line : (book : Declared) (line behind : List ℕ) → verbs_of book (line ∷ parts_of behind) ≡ (built_verb_of book line >>= λ verb. (verbs_of book (parts_of behind) >>= λ verbs. Some (verb ∷ verbs)))
-verbs-line book line behind =
+pub verbs-line : (line behind : List ℕ) → verbs_of (line ∷ parts_of behind) ≡ (built_verb_of line >>= λ verb. (verbs_of (parts_of behind) >>= λ verbs. Some (verb ∷ verbs)))
+verbs-line line behind =
     let h = some_part behind in
-    subst (λ (ps : List (List ℕ)). verbs_of book (line ∷ ps) ≡ (built_verb_of book line >>= λ verb. (verbs_of book ps >>= λ verbs. Some (verb ∷ verbs)))) (sym h.2) refl
+    subst (λ (ps : List (List ℕ)). verbs_of (line ∷ ps) ≡ (built_verb_of line >>= λ verb. (verbs_of ps >>= λ verbs. Some (verb ∷ verbs)))) (sym h.2) refl
 
 regroup : (front : List Verb) (v : Verb) (read : Option (List Verb)) → option_map (λ more. front ++ more) (read >>= λ verbs. Some (v ∷ verbs)) ≡ option_map (λ more. (front ++ v ∷ []) ++ more) read
 regroup front v None = refl
 regroup front v (Some verbs) = ap (λ (vs : List Verb). Some vs) (sym (append_assoc front (v ∷ []) verbs))
 
 -- the verbs so far, and those of the rest
-abbrev pub Read : Declared → List Verb → List ℕ → List ℕ → Type 0
-Read book so_far rest text = option_map (λ more. so_far ++ more) (verbs_of book (parts_of rest)) ≡ verbs_of book (parts_of text)
+abbrev pub Read : List Verb → List ℕ → List ℕ → Type 0
+Read so_far rest text = option_map (λ more. so_far ++ more) (verbs_of (parts_of rest)) ≡ verbs_of (parts_of text)
 
-pub read_line : (book : Declared) (so_far next : List Verb) (rest line behind text : List ℕ) (v : Verb) → first_line rest ≡ Some (line, behind) → built_verb_of book line ≡ Some v → next ≡ so_far ++ v ∷ []
-    → Read book so_far rest text → Read book next behind text
-read_line book so_far next rest line behind text v cut is next_is before =
+pub read_line : (so_far next : List Verb) (rest line behind text : List ℕ) (v : Verb) → first_line rest ≡ Some (line, behind) → built_verb_of line ≡ Some v → next ≡ so_far ++ v ∷ []
+    → Read so_far rest text → Read next behind text
+read_line so_far next rest line behind text v cut is next_is before =
     let parts = parts-cut rest line behind cut in
-    let verbs = verbs-line book line behind ∙ ap (λ o. o >>= λ verb. (verbs_of book (parts_of behind) >>= λ verbs. Some (verb ∷ verbs))) is in
-    subst (λ (n : List Verb). Read book n behind text) (sym next_is)
-    (sym (regroup so_far v (verbs_of book (parts_of behind))) ∙ ap (λ o. option_map (λ more. so_far ++ more) o) (sym verbs ∙ ap (verbs_of book) (sym parts)) ∙ before)
+    let verbs = verbs-line line behind ∙ ap (λ o. o >>= λ verb. (verbs_of (parts_of behind) >>= λ verbs. Some (verb ∷ verbs))) is in
+    subst (λ (n : List Verb). Read n behind text) (sym next_is)
+    (sym (regroup so_far v (verbs_of (parts_of behind))) ∙ ap (λ o. option_map (λ more. so_far ++ more) o) (sym verbs ∙ ap (verbs_of) (sym parts)) ∙ before)
 
-pub refused_line : (book : Declared) (so_far : List Verb) (rest line behind text : List ℕ) → first_line rest ≡ Some (line, behind) → built_verb_of book line ≡ None → Read book so_far rest text → verbs_of book (parts_of text) ≡ None
-refused_line book so_far rest line behind text cut is before =
+pub refused_line : (so_far : List Verb) (rest line behind text : List ℕ) → first_line rest ≡ Some (line, behind) → built_verb_of line ≡ None → Read so_far rest text → verbs_of (parts_of text) ≡ None
+refused_line so_far rest line behind text cut is before =
     let parts = parts-cut rest line behind cut in
-    let verbs = verbs-line book line behind ∙ ap (λ o. o >>= λ verb. (verbs_of book (parts_of behind) >>= λ verbs. Some (verb ∷ verbs))) is in
-    sym before ∙ ap (λ o. option_map (λ more. so_far ++ more) o) (ap (verbs_of book) parts ∙ verbs)
+    let verbs = verbs-line line behind ∙ ap (λ o. o >>= λ verb. (verbs_of (parts_of behind) >>= λ verbs. Some (verb ∷ verbs))) is in
+    sym before ∙ ap (λ o. option_map (λ more. so_far ++ more) o) (ap (verbs_of) parts ∙ verbs)
 
 -- behind the last line feed stands nothing
-pub read_end : (book : Declared) (so_far : List Verb) (rest text : List ℕ) → first_line rest ≡ None → length rest ≡ 0 → Read book so_far rest text → verbs_of book (parts_of text) ≡ Some so_far
-read_end book so_far rest text cut none before =
-    let last : verbs_of book (parts_of rest) ≡ Some [] = ap (verbs_of book) (parts-whole rest cut) ∙ rw none refl in
+pub read_end : (so_far : List Verb) (rest text : List ℕ) → first_line rest ≡ None → length rest ≡ 0 → Read so_far rest text → verbs_of (parts_of text) ≡ Some so_far
+read_end so_far rest text cut none before =
+    let last : verbs_of (parts_of rest) ≡ Some [] = ap (verbs_of) (parts-whole rest cut) ∙ rw none refl in
     sym before ∙ ap (λ o. option_map (λ more. so_far ++ more) o) last ∙ ap (λ (vs : List Verb). Some vs) (append-nil so_far)
 
-pub read_rest : (book : Declared) (so_far : List Verb) (rest text : List ℕ) → first_line rest ≡ None → (length rest == 0) ≡ false → Read book so_far rest text → verbs_of book (parts_of text) ≡ None
-read_rest book so_far rest text cut test before =
-    let last : verbs_of book (parts_of rest) ≡ None = ap (verbs_of book) (parts-whole rest cut) ∙ rw test refl in
+pub read_rest : (so_far : List Verb) (rest text : List ℕ) → first_line rest ≡ None → (length rest == 0) ≡ false → Read so_far rest text → verbs_of (parts_of text) ≡ None
+read_rest so_far rest text cut test before =
+    let last : verbs_of (parts_of rest) ≡ None = ap (verbs_of) (parts-whole rest cut) ∙ rw test refl in
     sym before ∙ ap (λ o. option_map (λ more. so_far ++ more) o) last
 
 pub shorter : (bytes line behind : List ℕ) → first_line bytes ≡ Some (line, behind) → length behind < length bytes
 shorter bytes line behind e = let k = cut_is 10 bytes line behind e in omega (arith, ap length k.parts, length-append line (10 ∷ behind))
 
 -- a line was refused, or memory ran out
-pub refused : (book : Declared) (so_far : List Verb) (rest line behind text : List ℕ) (f : Unread) → first_line rest ≡ Some (line, behind) → Gives {X = Verb} (λ v. v) (Err f) (built_verb_of book line) → Read book so_far rest text
-    → Fails f (verbs_of book (parts_of text))
-refused book so_far rest line behind text unread.NotBuilt cut is before = refused_line book so_far rest line behind text cut is before
-refused book so_far rest line behind text unread.OutOfMemory cut is before = tt
+pub refused : (so_far : List Verb) (rest line behind text : List ℕ) (f : Unread) → first_line rest ≡ Some (line, behind) → Gives {X = Verb} (λ v. v) (Err f) (built_verb_of line) → Read so_far rest text
+    → Fails f (verbs_of (parts_of text))
+refused so_far rest line behind text unread.NotBuilt cut is before = refused_line so_far rest line behind text cut is before
+refused so_far rest line behind text unread.OutOfMemory cut is before = tt

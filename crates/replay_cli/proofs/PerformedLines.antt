@@ -1,21 +1,32 @@
 -- Lines that are worked one after the other, and the end line behind them, are the transcript.
 use Rattle.std.proofs.Common.{◌≡◌, ℕ, suc, ◌+◌, ◌<◌, ◌≤◌, List, [], ◌∷◌, ◌++◌, length, take, drop, Option, Result, Ok, Err, refl, sym, ap, subst, ◌∙◌, append_assoc, append-nil, take-append-drop, get_or, drop-cons, add-one}
 use Rattle.std.specs.Io.KnownBytes.{Appends}
-use Rattle.std.proofs.KnownBytes.{Appends-trans}
+use Rattle.std.proofs.KnownBytes.{Appends-nil, Appends-trans}
 use Rattle.cable_base.specs.declared.faults.Trouble.{Trouble}
 use Rattle.cable_base.specs.declared.faults.Trouble.TheVariants as trouble
 use Rattle.cable_model.specs.declared.events.Event.{Event}
 use Rattle.cable_model.specs.declared.verbs.Verb.{Verb}
-use Rattle.cable_model.specs.History.{Rules, start, run}
-use Rattle.cable_model.specs.Transcript.{said_all, idle_count, lines_text, ended, end_line}
+use Rattle.cable_model.specs.History.{Rules, World, start, run}
+use Rattle.cable_model.specs.Transcript.{said_all, idle_count, lines_text, ended, end_line, totals_of, totals_line}
 use Rattle.cable_model.specs.Script.{expand, expand_all, rules_of}
 use Rattle.replay_cli.specs.declared.running.Tally.{Tally}
-use Rattle.replay_cli.specs.Outputs.{IsFront, Writes}
+use Rattle.replay_cli.specs.declared.modes.Mode.{Mode}
+use Rattle.replay_cli.specs.declared.modes.Mode.TheVariants as mode
+use Rattle.replay_cli.specs.Modes.{output_of, tail_of}
+use Rattle.replay_cli.specs.Outputs.{Writing, Took, IsFront, Writes}
 use Rattle.replay_cli.specs.Reading.{Read}
-use Rattle.replay_cli.specs.Sessions.{Held}
+use Rattle.replay_cli.specs.Sessions.{Held, FollowsWorld}
+use Rattle.replay_cli.specs.Running.{RunsAs}
 use Rattle.replay_cli.specs.Replay.{Works, Performs}
 use Rattle.replay_cli.proofs.WholeInputs.{Rose-later}
 use Rattle.replay_cli.proofs.RunsOn.{said_all-append, lines_text-append}
+
+-- a line's events were run, and what they said was written or broke off
+pub works_written : (r : Rules) (v : Verb) (old new : Held) (text : List ℕ) (a a' : Tally) (sink : Writing) (result : Result (Unit {0}) Trouble) → RunsAs r (expand v) old new [] text a a' → Writes sink text result
+    → (w : World) → FollowsWorld r old w → Works r w v new sink a a' result
+works_written r v old new text a a' sink (Ok u) p q w f = (subst (λ (x : List ℕ). Took sink x) (p.wrote w f) q, p.follows w f, p.counted, p.idle w f, p.totals w f)
+works_written r v old new text a a' sink (Err trouble.Failed) p q w f = (q.0, (q.1, subst (λ (x : List ℕ). IsFront q.0 x) (p.wrote w f) q.2, q.3))
+works_written r v old new text a a' sink (Err trouble.OutOfMemory) p q w f = (q.0, (q.1, subst (λ (x : List ℕ). IsFront q.0 x) (p.wrote w f) q.2))
 
 pub expand_all-append : (us vs : List Verb) → expand_all (us ++ vs) ≡ expand_all us ++ expand_all vs
 expand_all-append [] vs = refl
@@ -52,45 +63,71 @@ front_of_all r es fs gs all front tail e f =
     let whole : lines_text (said_all r start all) ≡ a ++ (b ++ c) = ap (λ (x : List Event). lines_text (said_all r start x)) e ∙ said-parts r es (fs ++ gs) ∙ ap (λ x. a ++ x) inner in
     (f.0 ++ (c ++ tail), regroup a front f.0 b c tail f.1 ∙ ap (λ x. x ++ tail) (sym whole))
 
+-- what is written for a script is its lines, and what stands behind them
+abbrev pub tail_for : Mode → Read → List ℕ
+tail_for m s =
+    tail_of m (length (expand_all s.verbs)) (idle_count (rules_of s.book) start (expand_all s.verbs)) (totals_of (said_all (rules_of s.book) start (expand_all s.verbs)))
+
+output-parts : (m : Mode) (s : Read) → lines_text (said_all (rules_of s.book) start (expand_all s.verbs)) ++ tail_for m s ≡ output_of m s
+output-parts mode.Transcript s = refl
+output-parts mode.Totals s =
+    let r = rules_of s.book in
+    let es = expand_all s.verbs in
+    sym (append_assoc (lines_text (said_all r start es)) (ended (end_line (length es) (idle_count r start es))) (ended (totals_line (totals_of (said_all r start es)))))
+
+front-output : (m : Mode) (s : Read) (front : List ℕ) → IsFront front (lines_text (said_all (rules_of s.book) start (expand_all s.verbs)) ++ tail_for m s) → IsFront front (output_of m s)
+front-output m s front f = subst (λ (x : List ℕ). IsFront front x) (output-parts m s) f
+
 -- a line broke off
-pub performs_refused : (s : Read) (us ws : List Verb) (v : Verb) (h : Held) (f : Trouble) (t0 t1 t2 : Option (List ℕ)) (w0 w1 w2 : ℕ) (a a' : Tally) → s.verbs ≡ us ++ v ∷ ws
+pub performs_refused : (m : Mode) (s : Read) (us ws : List Verb) (v : Verb) (h : Held) (f : Trouble) (t0 t1 t2 : Option (List ℕ)) (w0 w1 w2 : ℕ) (a a' : Tally) → s.verbs ≡ us ++ v ∷ ws
     → Appends t0 t1 (lines_text (said_all (rules_of s.book) start (expand_all us))) → w0 ≤ w1
     → Works (rules_of s.book) (run (rules_of s.book) start (expand_all us)) v h (record { taken = t1; taken_behind = t2; faults = w1; faults_behind = w2 }) a a' (Err f)
-    → Performs s (record { taken = t0; taken_behind = t2; faults = w0; faults_behind = w2 }) (Err f)
-performs_refused s us ws v h trouble.Failed t0 t1 t2 w0 w1 w2 a a' e p le q = (
+    → Performs m s (record { taken = t0; taken_behind = t2; faults = w0; faults_behind = w2 }) (Err f)
+performs_refused m s us ws v h trouble.Failed t0 t1 t2 w0 w1 w2 a a' e p le q = (
   lines_text (said_all (rules_of s.book) start (expand_all us)) ++ q.0,
   (
     Appends-trans t0 t1 t2 (lines_text (said_all (rules_of s.book) start (expand_all us))) q.0 p q.1.0,
-    front_of_all (rules_of s.book) (expand_all us) (expand v) (expand_all ws) (expand_all s.verbs) q.0 _ (expand_all-parts us ws s.verbs v e) q.1.1,
+    front-output m s (lines_text (said_all (rules_of s.book) start (expand_all us)) ++ q.0)
+        (front_of_all (rules_of s.book) (expand_all us) (expand v) (expand_all ws) (expand_all s.verbs) q.0 (tail_for m s) (expand_all-parts us ws s.verbs v e) q.1.1),
     Rose-later w0 w1 w2 le q.1.2,
   ),
 )
-performs_refused s us ws v h trouble.OutOfMemory t0 t1 t2 w0 w1 w2 a a' e p le q = (
+performs_refused m s us ws v h trouble.OutOfMemory t0 t1 t2 w0 w1 w2 a a' e p le q = (
   lines_text (said_all (rules_of s.book) start (expand_all us)) ++ q.0,
   (
     Appends-trans t0 t1 t2 (lines_text (said_all (rules_of s.book) start (expand_all us))) q.0 p q.1.0,
-    front_of_all (rules_of s.book) (expand_all us) (expand v) (expand_all ws) (expand_all s.verbs) q.0 _ (expand_all-parts us ws s.verbs v e) q.1.1,
+    front-output m s (lines_text (said_all (rules_of s.book) start (expand_all us)) ++ q.0)
+        (front_of_all (rules_of s.book) (expand_all us) (expand v) (expand_all ws) (expand_all s.verbs) q.0 (tail_for m s) (expand_all-parts us ws s.verbs v e) q.1.1),
   ),
 )
 
 tail_front : (a front tail : List ℕ) → IsFront front tail → IsFront (a ++ front) (a ++ tail)
 tail_front a front tail f = (f.0, append_assoc a front f.0 ∙ ap (λ x. a ++ x) f.1)
 
--- the end line was written, or broke off
-pub performs_end : (s : Read) (tail : List ℕ) (result : Result (Unit {0}) Trouble) (t0 t1 t2 : Option (List ℕ)) (w0 w1 w2 : ℕ)
-    → tail ≡ ended (end_line (length (expand_all s.verbs)) (idle_count (rules_of s.book) start (expand_all s.verbs)))
+-- memory ran out before a line was worked
+pub performs_unbegun : (m : Mode) (s : Read) (t0 : Option (List ℕ)) (w0 : ℕ) → Performs m s (record { taken = t0; taken_behind = t0; faults = w0; faults_behind = w0 }) (Err trouble.OutOfMemory)
+performs_unbegun m s t0 w0 = ([], (Appends-nil t0, (output_of m s, refl)))
+
+-- the lines were written, and memory ran out for what stands behind them
+pub performs_unended : (m : Mode) (s : Read) (t0 t1 : Option (List ℕ)) (w0 w1 : ℕ) → Appends t0 t1 (lines_text (said_all (rules_of s.book) start (expand_all s.verbs)))
+    → Performs m s (record { taken = t0; taken_behind = t1; faults = w0; faults_behind = w1 }) (Err trouble.OutOfMemory)
+performs_unended m s t0 t1 w0 w1 p = let a = lines_text (said_all (rules_of s.book) start (expand_all s.verbs)) in (a, (p, front-output m s a (tail_for m s, refl)))
+
+-- what stands behind the lines was written, or broke off
+pub performs_end : (m : Mode) (s : Read) (tail : List ℕ) (result : Result (Unit {0}) Trouble) (t0 t1 t2 : Option (List ℕ)) (w0 w1 w2 : ℕ)
+    → tail ≡ tail_for m s
     → Appends t0 t1 (lines_text (said_all (rules_of s.book) start (expand_all s.verbs))) → w0 ≤ w1
     → Writes (record { taken = t1; taken_behind = t2; faults = w1; faults_behind = w2 }) tail result
-    → Performs s (record { taken = t0; taken_behind = t2; faults = w0; faults_behind = w2 }) result
-performs_end s tail (Ok u) t0 t1 t2 w0 w1 w2 e p le q =
+    → Performs m s (record { taken = t0; taken_behind = t2; faults = w0; faults_behind = w2 }) result
+performs_end m s tail (Ok u) t0 t1 t2 w0 w1 w2 e p le q =
     let a = lines_text (said_all (rules_of s.book) start (expand_all s.verbs)) in
-    subst (λ (x : List ℕ). Appends t0 t2 (a ++ x)) e (Appends-trans t0 t1 t2 a tail p q)
-performs_end s tail (Err trouble.Failed) t0 t1 t2 w0 w1 w2 e p le q =
+    subst (λ (x : List ℕ). Appends t0 t2 x) (ap (λ x. a ++ x) e ∙ output-parts m s) (Appends-trans t0 t1 t2 a tail p q)
+performs_end m s tail (Err trouble.Failed) t0 t1 t2 w0 w1 w2 e p le q =
     let a = lines_text (said_all (rules_of s.book) start (expand_all s.verbs)) in
-    (a ++ q.0, (Appends-trans t0 t1 t2 a q.0 p q.1, subst (λ (x : List ℕ). IsFront (a ++ q.0) (a ++ x)) e (tail_front a q.0 tail q.2), Rose-later w0 w1 w2 le q.3))
-performs_end s tail (Err trouble.OutOfMemory) t0 t1 t2 w0 w1 w2 e p le q =
+    (a ++ q.0, (Appends-trans t0 t1 t2 a q.0 p q.1, subst (λ (x : List ℕ). IsFront (a ++ q.0) x) (ap (λ x. a ++ x) e ∙ output-parts m s) (tail_front a q.0 tail q.2), Rose-later w0 w1 w2 le q.3))
+performs_end m s tail (Err trouble.OutOfMemory) t0 t1 t2 w0 w1 w2 e p le q =
     let a = lines_text (said_all (rules_of s.book) start (expand_all s.verbs)) in
-    (a ++ q.0, (Appends-trans t0 t1 t2 a q.0 p q.1, subst (λ (x : List ℕ). IsFront (a ++ q.0) (a ++ x)) e (tail_front a q.0 tail q.2)))
+    (a ++ q.0, (Appends-trans t0 t1 t2 a q.0 p q.1, subst (λ (x : List ℕ). IsFront (a ++ q.0) x) (ap (λ x. a ++ x) e ∙ output-parts m s) (tail_front a q.0 tail q.2)))
 
 -- the verbs before one of them, that one, and those behind it
 pub verbs_parts : (vs : List Verb) (i : ℕ) (v : Verb) → i < length vs → v ≡ get_or vs i v → vs ≡ take i vs ++ v ∷ drop (i + 1) vs

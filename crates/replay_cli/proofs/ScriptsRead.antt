@@ -1,6 +1,7 @@
 -- The built scripts are exactly what is read as one.
-use Rattle.std.proofs.Common.{◌≡◌, ℕ, ◌≤◌, List, [], ◌∷◌, ◌++◌, length, Bool, true, false, ◌&&◌, cond, Some, None, Result, Ok, Err, refl, sym, ap, subst, ◌∙◌, arith}
-use Rattle.std.specs.Prelude.{nat_le, ◌==◌, codes, bytes_eq, count_by, IsUtf8}
+use Rattle.std.proofs.Common.{◌≡◌, ℕ, ◌≤◌, List, [], ◌∷◌, ◌++◌, length, Bool, true, false, cond, Some, None, Result, Ok, Err, refl, sym, ap, subst, ◌∙◌, arith}
+use Rattle.std.specs.Prelude.{nat_le, ◌==◌, codes, bytes_eq, IsUtf8}
+use Rattle.std.specs.Result.{result_ok}
 use Rattle.std.specs.List.{list_all, list_any, onto_first, join_with_byte}
 use Rattle.std.proofs.lemmas.Str.{is_utf8-from_IsUtf8, IsUtf8-from_is_utf8}
 use Rattle.std.proofs.lemmas.Bool.{and_parts, and_from, leb-true, eqb-true}
@@ -9,15 +10,19 @@ use Rattle.std.proofs.lemmas.Option.{cond_some, same_Some}
 use Rattle.std.proofs.lemmas.Slice.Eq.{bytes_eq-Decides}
 use Rattle.std.proofs.lemmas.List.Splits.{join_with_byte-slice_split}
 use Rattle.channel_book.specs.declared.faults.BookFault.{BookFault}
-use Rattle.channel_book.specs.Shapes.{Declared, book_of}
+use Rattle.channel_book.specs.Shapes.{Declared}
+use Rattle.channel_book.specs.Books.{book_of}
 use Rattle.cable_model.specs.declared.verbs.Verb.{Verb}
 use Rattle.cable_model.specs.Script.{Spells, IsLine, AllSpell, IsScript, bytes_of_lines, header, book_line}
-use Rattle.replay_cli.specs.Words.{◌>>=◌, first_word, after_word}
-use Rattle.replay_cli.specs.Built.{is_built_verb, is_in, is_open, IsBuilt}
-use Rattle.replay_cli.specs.Reading.{verb_in, line_text, verb_of, built_verb_of, verbs_of, declared_in, book_in, parts_of, first_line, behind_header, are_few, script_with, script_of, Read}
+use Rattle.cable_script.specs.Words.{◌>>=◌, first_word, after_word}
+use Rattle.cable_script.specs.declared.faults.LineFault.{LineFault}
+use Rattle.cable_script.specs.Reading.{verb_of}
+use Rattle.cable_script.proofs.Cuts.{Cut, either_false, cut_is, cut_of}
+use Rattle.cable_script.proofs.GrammarRead.{line_is, line_of}
+use Rattle.cable_script.proofs.WordsRead.{bind_is, bind_of, word_is, word_found}
+use Rattle.replay_cli.specs.Built.{is_built_book, is_built_verb, IsBuilt}
+use Rattle.replay_cli.specs.Reading.{line_text, short_line, short_verb_of, built_verb_of, verbs_of, declared_in, book_in, parts_of, first_line, behind_header, script_with, script_of, Read}
 use Rattle.replay_cli.specs.Scripts.{IsBuiltScript}
-use Rattle.replay_cli.proofs.Cuts.{Cut, either_false, cut_is, cut_of}
-use Rattle.replay_cli.proofs.LinesRead.{bind_is, bind_of, word_is, word_found, verb_is, verb_found}
 
 -- ---- the text of a line
 
@@ -41,30 +46,49 @@ text_of line h =
 -- ---- a line behind the book
 
 -- it is text, spells the verb, and the verb is built
-record IsBuiltLine (book : Declared) (line : List ℕ) (v : Verb) : Type 0 where
+record IsBuiltLine (line : List ℕ) (v : Verb) : Type 0 where
   text : IsText line
   spells : Spells v line
-  built : is_built_verb book v ≡ true
+  built : is_built_verb v ≡ true
 
-built_is : (book : Declared) (line : List ℕ) (v : Verb) → built_verb_of book line ≡ Some v → IsBuiltLine book line v
-built_is book line v e =
+ok_is : (r : Result Verb LineFault) (v : Verb) → result_ok r ≡ Some v → r ≡ Ok v
+ok_is (Ok w) v e = ap (λ (x : Verb). Ok x) (same_Some w v e)
+ok_is (Err f) v e = absurd cc
+
+-- a line that was read is short enough, is text, and spells its verb
+record IsRead (line : List ℕ) (v : Verb) : Type 0 where
+  text : IsText line
+  spells : Spells v line
+
+short_is : (line : List ℕ) (v : Verb) → short_verb_of line ≡ Some v → IsRead line v
+short_is line v e =
+    let short = bind_is _ _ v e in
+    let c = cond_some _ line short.0 short.1.0 in
+    let l = line_is short.0 v (ok_is (verb_of short.0) v short.1.1) in
+    let here : IsUtf8 line × Spells v line = subst (λ (x : List ℕ). IsUtf8 x × Spells v x) (sym c.1) l in
+    record { text = record { utf8 = here.0; short = leb-true _ _ c.0 }; spells = here.1 }
+
+built_is : (line : List ℕ) (v : Verb) → built_verb_of line ≡ Some v → IsBuiltLine line v
+built_is line v e =
     let verb = bind_is _ _ v e in
-    let text = bind_is _ _ verb.0 verb.1.0 in
     let c = cond_some _ verb.0 v verb.1.1 in
-    let t = text_is line text.0 text.1.0 in
-    let spells : Spells verb.0 text.0 = verb_is text.0 verb.0 text.1.1 in
-    let here : Spells verb.0 line = subst (λ (l : List ℕ). Spells verb.0 l) (sym t.1) spells in
+    let read = short_is line verb.0 verb.1.0 in
     record {
-      text = t.0;
-      spells = subst (λ (w : Verb). Spells w line) c.1 here;
-      built = subst (λ (w : Verb). is_built_verb book w ≡ true) c.1 c.0;
+      text = read.text;
+      spells = subst (λ (w : Verb). Spells w line) c.1 read.spells;
+      built = subst (λ (w : Verb). is_built_verb w ≡ true) c.1 c.0;
     }
 
-built_found : (book : Declared) (line : List ℕ) (v : Verb) → IsLine line → Spells v line → is_built_verb book v ≡ true → built_verb_of book line ≡ Some v
-built_found book line v l s b =
-    bind_of (verb_of line) (λ (w : Verb). cond (is_built_verb book w) (Some w) None) v v
-    (bind_of (line_text line) verb_in line v (text_of line l) (verb_found book v line b s))
-    (rw b refl)
+short_found : (line : List ℕ) (v : Verb) → IsLine line → Spells v line → short_verb_of line ≡ Some v
+short_found line v l s =
+    let short : length line ≤ 1200000 = l.short in
+    let within : nat_le (length line) 1200000 ≡ true = grind (arith, nat_tests) in
+    let found : short_line line ≡ Some line = rw within refl in
+    bind_of (short_line line) (λ (x : List ℕ). result_ok (verb_of x)) line v found (ap (λ (r : Result Verb LineFault). result_ok r) (line_of line v l.utf8 s))
+
+built_found : (line : List ℕ) (v : Verb) → IsLine line → Spells v line → is_built_verb v ≡ true → built_verb_of line ≡ Some v
+built_found line v l s b =
+    bind_of (short_verb_of line) (λ (w : Verb). cond (is_built_verb w) (Some w) None) v v (short_found line v l s) (rw b refl)
 
 -- ---- the parts between line feeds
 
@@ -89,50 +113,50 @@ fronts (part ∷ []) = []
 fronts (part ∷ next ∷ parts) = part ∷ fronts (next ∷ parts)
 
 -- what reading parts gave: the verb of the first, and those of the others
-record IsStep (book : Declared) (part : List ℕ) (parts : List (List ℕ)) (verbs : List Verb) : Type 0 where
+record IsStep (part : List ℕ) (parts : List (List ℕ)) (verbs : List Verb) : Type 0 where
   first : Verb
   more : List Verb
-  here : built_verb_of book part ≡ Some first
-  behind : verbs_of book parts ≡ Some more
+  here : built_verb_of part ≡ Some first
+  behind : verbs_of parts ≡ Some more
   whole : first ∷ more ≡ verbs
 
-step_is : (book : Declared) (part next : List ℕ) (parts : List (List ℕ)) (verbs : List Verb) → verbs_of book (part ∷ next ∷ parts) ≡ Some verbs → IsStep book part (next ∷ parts) verbs
-step_is book part next parts verbs e =
-    let v = bind_is (built_verb_of book part) (λ (w : Verb). verbs_of book (next ∷ parts) >>= λ ws. Some (w ∷ ws)) verbs e in
-    let more = bind_is (verbs_of book (next ∷ parts)) (λ (ws : List Verb). Some (v.0 ∷ ws)) verbs v.1.1 in
+step_is : (part next : List ℕ) (parts : List (List ℕ)) (verbs : List Verb) → verbs_of (part ∷ next ∷ parts) ≡ Some verbs → IsStep part (next ∷ parts) verbs
+step_is part next parts verbs e =
+    let v = bind_is (built_verb_of part) (λ (w : Verb). verbs_of (next ∷ parts) >>= λ ws. Some (w ∷ ws)) verbs e in
+    let more = bind_is (verbs_of (next ∷ parts)) (λ (ws : List Verb). Some (v.0 ∷ ws)) verbs v.1.1 in
     record { first = v.0; more = more.0; here = v.1.0; behind = more.1.0; whole = same_Some (v.0 ∷ more.0) verbs more.1.1 }
 
 -- the lines that were read are ended by line feeds
-fronts_joined : (book : Declared) (parts : List (List ℕ)) (verbs : List Verb) → verbs_of book parts ≡ Some verbs → join_with_byte 10 parts ≡ bytes_of_lines (fronts parts)
-fronts_joined book [] verbs e = absurd cc
-fronts_joined book (part ∷ []) verbs e = empty part (cond_some _ [] verbs e).0
+fronts_joined : (parts : List (List ℕ)) (verbs : List Verb) → verbs_of parts ≡ Some verbs → join_with_byte 10 parts ≡ bytes_of_lines (fronts parts)
+fronts_joined [] verbs e = absurd cc
+fronts_joined (part ∷ []) verbs e = empty part (cond_some _ [] verbs e).0
   where
     empty : (xs : List ℕ) → (length xs == 0) ≡ true → xs ≡ []
     empty [] e = refl
     empty (x ∷ xs) e = let z : length (x ∷ xs) ≡ 0 = eqb-true _ _ e in absurd (omega arith)
-fronts_joined book (part ∷ next ∷ parts) verbs e =
-    let st = step_is book part next parts verbs e in
-    ap (λ (rest : List ℕ). part ++ 10 ∷ rest) (fronts_joined book (next ∷ parts) st.more st.behind)
+fronts_joined (part ∷ next ∷ parts) verbs e =
+    let st = step_is part next parts verbs e in
+    ap (λ (rest : List ℕ). part ++ 10 ∷ rest) (fronts_joined (next ∷ parts) st.more st.behind)
 
 -- each spells its verb
-fronts_spell : (book : Declared) (parts : List (List ℕ)) (verbs : List Verb) → Feedless parts → verbs_of book parts ≡ Some verbs → AllSpell verbs (fronts parts)
-fronts_spell book [] verbs h e = absurd cc
-fronts_spell book (part ∷ []) verbs h e = subst (λ (vs : List Verb). AllSpell vs []) (cond_some _ [] verbs e).1 tt
-fronts_spell book (part ∷ next ∷ parts) verbs h e =
-    let st = step_is book part next parts verbs e in
-    let line = built_is book part st.first st.here in
+fronts_spell : (parts : List (List ℕ)) (verbs : List Verb) → Feedless parts → verbs_of parts ≡ Some verbs → AllSpell verbs (fronts parts)
+fronts_spell [] verbs h e = absurd cc
+fronts_spell (part ∷ []) verbs h e = subst (λ (vs : List Verb). AllSpell vs []) (cond_some _ [] verbs e).1 tt
+fronts_spell (part ∷ next ∷ parts) verbs h e =
+    let st = step_is part next parts verbs e in
+    let line = built_is part st.first st.here in
     subst (λ (vs : List Verb). AllSpell vs (fronts (part ∷ next ∷ parts))) st.whole
-    (record { utf8 = line.text.utf8; short = line.text.short; one = h.0 }, line.spells, fronts_spell book (next ∷ parts) st.more h.1 st.behind)
+    (record { utf8 = line.text.utf8; short = line.text.short; one = h.0 }, line.spells, fronts_spell (next ∷ parts) st.more h.1 st.behind)
 
 -- and is built
-fronts_built : (book : Declared) (parts : List (List ℕ)) (verbs : List Verb) → verbs_of book parts ≡ Some verbs → list_all (is_built_verb book) verbs ≡ true
-fronts_built book [] verbs e = absurd cc
-fronts_built book (part ∷ []) verbs e = subst (λ (vs : List Verb). list_all (is_built_verb book) vs ≡ true) (cond_some _ [] verbs e).1 refl
-fronts_built book (part ∷ next ∷ parts) verbs e =
-    let st = step_is book part next parts verbs e in
-    let line = built_is book part st.first st.here in
-    subst (λ (vs : List Verb). list_all (is_built_verb book) vs ≡ true) st.whole
-    (and_from _ _ line.built (fronts_built book (next ∷ parts) st.more st.behind))
+fronts_built : (parts : List (List ℕ)) (verbs : List Verb) → verbs_of parts ≡ Some verbs → list_all is_built_verb verbs ≡ true
+fronts_built [] verbs e = absurd cc
+fronts_built (part ∷ []) verbs e = subst (λ (vs : List Verb). list_all is_built_verb vs ≡ true) (cond_some _ [] verbs e).1 refl
+fronts_built (part ∷ next ∷ parts) verbs e =
+    let st = step_is part next parts verbs e in
+    let line = built_is part st.first st.here in
+    subst (λ (vs : List Verb). list_all is_built_verb vs ≡ true) st.whole
+    (and_from _ _ line.built (fronts_built (next ∷ parts) st.more st.behind))
 
 -- a line is the first part
 line_split : (line rest : List ℕ) → list_any (λ b. b == 10) line ≡ false → parts_of (line ++ 10 ∷ rest) ≡ line ∷ parts_of rest
@@ -141,21 +165,21 @@ line_split (b ∷ line) rest e =
     let h = either_false (b == 10) (list_any (λ b. b == 10) line) e in
     rw (h.0, line_split line rest h.1) refl
 
-verbs_step : (book : Declared) (line : List ℕ) (parts : List (List ℕ)) (v : Verb) (vs : List Verb) → built_verb_of book line ≡ Some v → verbs_of book parts ≡ Some vs → verbs_of book (line ∷ parts) ≡ Some (v ∷ vs)
-verbs_step book line [] v vs e h = absurd cc
-verbs_step book line (next ∷ parts) v vs e h =
-    bind_of (built_verb_of book line) (λ (w : Verb). verbs_of book (next ∷ parts) >>= λ ws. Some (w ∷ ws)) v (v ∷ vs) e
-    (bind_of (verbs_of book (next ∷ parts)) (λ (ws : List Verb). Some (v ∷ ws)) vs (v ∷ vs) h refl)
+verbs_step : (line : List ℕ) (parts : List (List ℕ)) (v : Verb) (vs : List Verb) → built_verb_of line ≡ Some v → verbs_of parts ≡ Some vs → verbs_of (line ∷ parts) ≡ Some (v ∷ vs)
+verbs_step line [] v vs e h = absurd cc
+verbs_step line (next ∷ parts) v vs e h =
+    bind_of (built_verb_of line) (λ (w : Verb). verbs_of (next ∷ parts) >>= λ ws. Some (w ∷ ws)) v (v ∷ vs) e
+    (bind_of (verbs_of (next ∷ parts)) (λ (ws : List Verb). Some (v ∷ ws)) vs (v ∷ vs) h refl)
 
 -- lines that spell built verbs are read as them
-verbs_found : (book : Declared) (verbs : List Verb) (lines : List (List ℕ)) → AllSpell verbs lines → list_all (is_built_verb book) verbs ≡ true → verbs_of book (parts_of (bytes_of_lines lines)) ≡ Some verbs
-verbs_found book [] [] s b = refl
-verbs_found book [] (line ∷ lines) s b = absurd s
-verbs_found book (v ∷ vs) [] s b = absurd s
-verbs_found book (v ∷ vs) (line ∷ lines) s b =
+verbs_found : (verbs : List Verb) (lines : List (List ℕ)) → AllSpell verbs lines → list_all is_built_verb verbs ≡ true → verbs_of (parts_of (bytes_of_lines lines)) ≡ Some verbs
+verbs_found [] [] s b = refl
+verbs_found [] (line ∷ lines) s b = absurd s
+verbs_found (v ∷ vs) [] s b = absurd s
+verbs_found (v ∷ vs) (line ∷ lines) s b =
     let h = and_parts _ _ b in
-    subst (λ (parts : List (List ℕ)). verbs_of book parts ≡ Some (v ∷ vs)) (sym (line_split line (bytes_of_lines lines) s.0.one))
-    (verbs_step book line (parts_of (bytes_of_lines lines)) v vs (built_found book line v s.0 s.1 h.0) (verbs_found book vs lines s.2 h.1))
+    subst (λ (parts : List (List ℕ)). verbs_of parts ≡ Some (v ∷ vs)) (sym (line_split line (bytes_of_lines lines) s.0.one))
+    (verbs_step line (parts_of (bytes_of_lines lines)) v vs (built_found line v s.0 s.1 h.0) (verbs_found vs lines s.2 h.1))
 
 -- ---- the first lines
 
@@ -165,7 +189,7 @@ first_is bytes front rest e = cut_is 10 bytes front rest e
 first_found : (front rest : List ℕ) → list_any (λ b. b == 10) front ≡ false → first_line (front ++ 10 ∷ rest) ≡ Some (front, rest)
 first_found front rest e = cut_of 10 front rest e
 
-header_is : (bytes rest : List ℕ) → behind_header bytes ≡ Some rest → bytes ≡ header ++ 10 ∷ rest
+pub header_is : (bytes rest : List ℕ) → behind_header bytes ≡ Some rest → bytes ≡ header ++ 10 ∷ rest
 header_is bytes rest e =
     let p = bind_is _ _ rest e in
     let c = cond_some _ p.0.1 rest p.1.1 in
@@ -177,8 +201,8 @@ header_found : (rest : List ℕ) → behind_header (header ++ 10 ∷ rest) ≡ S
 header_found rest =
     bind_of (first_line (header ++ 10 ∷ rest)) (λ (p : List ℕ × List ℕ). cond (bytes_eq p.0 header) (Some p.1) None) (header, rest) rest (first_found header rest refl) refl
 
-declared_is : (r : Result Declared BookFault) (book : Declared) → declared_in r ≡ Some book → r ≡ Ok book
-declared_is (Ok b) book e = ap (λ (x : Declared). Ok x) (same_Some b book e)
+declared_is : (r : Result Declared BookFault) (book : Declared) → declared_in r ≡ Some book → (r ≡ Ok book) × (is_built_book book ≡ true)
+declared_is (Ok b) book e = let c = cond_some _ b book e in (ap (λ (x : Declared). Ok x) c.1, subst (λ (x : Declared). is_built_book x ≡ true) c.1 c.0)
 declared_is (Err f) book e = absurd cc
 
 -- the line of a book, with its text
@@ -186,6 +210,7 @@ record IsBook (line : List ℕ) (book : Declared) : Type 0 where
   text : List ℕ
   spelled : line ≡ book_line text
   declares : book_of text ≡ Ok book
+  built : is_built_book book ≡ true
 
 no_book : (book : Declared) → None ≡ Some book → ⊥
 no_book book e = absurd cc
@@ -201,13 +226,14 @@ book_is line book e =
     by_test text parts true t e = record {
       text = text;
       spelled = subst (λ (w : List ℕ). line ≡ w ++ 32 ∷ text) ((bytes_eq-Decides (first_word line) (codes "book")).0 t) parts;
-      declares = declared_is (book_of text) book e;
+      declares = (declared_is (book_of text) book e).0;
+      built = (declared_is (book_of text) book e).1;
     }
 
-book_found : (text : List ℕ) (book : Declared) → book_of text ≡ Ok book → book_in (book_line text) ≡ Some book
-book_found text book e =
+book_found : (text : List ℕ) (book : Declared) → book_of text ≡ Ok book → is_built_book book ≡ true → book_in (book_line text) ≡ Some book
+book_found text book e built =
     let w = word_found (codes "book") text refl in
-    let declared : declared_in (book_of text) ≡ Some book = ap (λ (r : Result Declared BookFault). declared_in r) e in
+    let declared : declared_in (book_of text) ≡ Some book = ap (λ (r : Result Declared BookFault). declared_in r) e ∙ rw built refl in
     bind_of (after_word (book_line text)) (λ (t : List ℕ). cond (bytes_eq (first_word (book_line text)) (codes "book")) (declared_in (book_of t)) None) text book w.1
     (subst (λ (name : List ℕ). cond (bytes_eq name (codes "book")) (declared_in (book_of text)) None ≡ Some book) (sym w.0) declared)
 
@@ -216,41 +242,36 @@ book_found text book e =
 -- the verbs behind the book, and its name
 record IsRest (book : Declared) (rest : List ℕ) (s : Read) : Type 0 where
   same_book : book ≡ s.book
-  verbs : verbs_of book (parts_of rest) ≡ Some s.verbs
-  few : are_few s.verbs ≡ true
+  verbs : verbs_of (parts_of rest) ≡ Some s.verbs
 
 rest_is : (book : Declared) (rest : List ℕ) (s : Read) → script_with book rest ≡ Some s → IsRest book rest s
 rest_is book rest s e =
     let verbs = bind_is _ _ s e in
-    let c = cond_some _ (record { book = book; verbs = verbs.0 }) s verbs.1.1 in
-    let same : verbs.0 ≡ s.verbs = ap (λ (r : Read). r.verbs) c.1 in
+    let c = same_Some (record { book = book; verbs = verbs.0 }) s verbs.1.1 in
     record {
-      same_book = ap (λ (r : Read). r.book) c.1;
-      verbs = subst (λ (vs : List Verb). verbs_of book (parts_of rest) ≡ Some vs) same verbs.1.0;
-      few = subst (λ (vs : List Verb). are_few vs ≡ true) same c.0;
+      same_book = ap (λ (r : Read). r.book) c;
+      verbs = subst (λ (vs : List Verb). verbs_of (parts_of rest) ≡ Some vs) (ap (λ (r : Read). r.verbs) c) verbs.1.0;
     }
 
 -- what was read as a script is one, with a book and what stands behind it
 whole_is : (bytes line rest : List ℕ) (s : Read) → bytes ≡ header ++ 10 ∷ (line ++ 10 ∷ rest) → list_any (λ b. b == 10) line ≡ false → IsText line → (book : Declared) → IsBook line book → IsRest book rest s → IsBuiltScript bytes s
 whole_is bytes line rest s whole one t book b r =
     let lines = fronts (parts_of rest) in
-    let joined : rest ≡ bytes_of_lines lines = sym (join_with_byte-slice_split 10 rest) ∙ fronts_joined book (parts_of rest) s.verbs r.verbs in
+    let joined : rest ≡ bytes_of_lines lines = sym (join_with_byte-slice_split 10 rest) ∙ fronts_joined (parts_of rest) s.verbs r.verbs in
     let behind : bytes ≡ header ++ 10 ∷ (line ++ 10 ∷ bytes_of_lines lines) = subst (λ (x : List ℕ). bytes ≡ header ++ 10 ∷ (line ++ 10 ∷ x)) joined whole in
     let isline : IsLine line = record { utf8 = t.utf8; short = t.short; one = one } in
-    let few = and_parts _ _ r.few in
-    let built : list_all (is_built_verb book) s.verbs ≡ true = fronts_built book (parts_of rest) s.verbs r.verbs in (
+    let built : list_all is_built_verb s.verbs ≡ true = fronts_built (parts_of rest) s.verbs r.verbs in (
       record {
         text = b.text;
         lines = lines;
         parts = subst (λ (l : List ℕ). bytes ≡ header ++ 10 ∷ (l ++ 10 ∷ bytes_of_lines lines)) b.spelled behind;
         second = subst (λ (l : List ℕ). IsLine l) b.spelled isline;
         declares = subst (λ (k : Declared). book_of b.text ≡ Ok k) r.same_book b.declares;
-        spelled = fronts_spell book (parts_of rest) s.verbs (parts_feedless rest) r.verbs;
+        spelled = fronts_spell (parts_of rest) s.verbs (parts_feedless rest) r.verbs;
       },
       record {
-        each = subst (λ (k : Declared). list_all (is_built_verb k) s.verbs ≡ true) r.same_book built;
-        few_texts = leb-true _ _ few.0;
-        few_opens = leb-true _ _ few.1;
+        quiet = subst (λ (k : Declared). is_built_book k ≡ true) r.same_book b.built;
+        each = built;
       },
     )
 
@@ -268,14 +289,9 @@ script_read bytes s e =
     (subst (λ (l : List ℕ). IsBook l book.0) (sym t.1) (book_is line.0 book.0 book.1.0))
     (rest_is book.0 second.0.1 s book.1.1)
 
-few_found : (texts opens : ℕ) → texts ≤ 100 → opens ≤ 1000 → (nat_le texts 100 && nat_le opens 1000) ≡ true
-few_found texts opens h g = grind (arith, nat_tests)
-
 rest_found : (lines : List (List ℕ)) (s : Read) → AllSpell s.verbs lines → IsBuilt s.book s.verbs → script_with s.book (bytes_of_lines lines) ≡ Some s
 rest_found lines s spelled b =
-    bind_of (verbs_of s.book (parts_of (bytes_of_lines lines))) (λ (vs : List Verb). cond (are_few vs) (Some (record { book = s.book; verbs = vs })) None) s.verbs s
-    (verbs_found s.book s.verbs lines spelled b.each)
-    (rw (few_found (count_by is_in s.verbs) (count_by is_open s.verbs) b.few_texts b.few_opens) refl)
+    bind_of (verbs_of (parts_of (bytes_of_lines lines))) (λ (vs : List Verb). Some (record { book = s.book; verbs = vs })) s.verbs s (verbs_found s.verbs lines spelled b.each) refl
 
 -- a built script is read
 pub script_found : (bytes : List ℕ) (s : Read) → IsScript bytes s.book s.verbs → IsBuilt s.book s.verbs → script_of bytes ≡ Some s
@@ -286,4 +302,4 @@ script_found bytes s i b =
     (bind_of _ _ (line ++ 10 ∷ rest) s (header_found (line ++ 10 ∷ rest))
     (bind_of _ _ (line, rest) s (first_found line rest i.second.one)
     (bind_of _ _ line s (text_of line i.second)
-    (bind_of _ _ s.book s (book_found i.text s.book i.declares) (rest_found i.lines s i.spelled b)))))
+    (bind_of _ _ s.book s (book_found i.text s.book i.declares b.quiet) (rest_found i.lines s i.spelled b)))))

@@ -1,10 +1,9 @@
 pub mod Built
 pub mod Inputs
+pub mod Modes
 pub mod Outputs
 pub mod Reading
 pub mod Replay
 pub mod Running
 pub mod Scripts
-pub mod Seats
 pub mod Sessions
-pub mod Words

@@ -1,17 +1,18 @@
 -- How a built script is read: line by line, from its front. That this reads exactly the built scripts is the law `scripts_are_read`.
-use Rattle.std.specs.Prelude.{◌≡◌, ◌==◌, ⊤, ℕ, Bool, ◌&&◌, nat_le, nat_lt, List, [], ◌∷◌, length, codes, Option, Some, None, Result, Ok, Err, count_by, if◌then◌else◌, bytes_eq}
+use Rattle.std.specs.Prelude.{◌≡◌, ◌==◌, ⊤, ℕ, Bool, ◌&&◌, nat_le, nat_lt, List, [], ◌∷◌, length, codes, Option, Some, None, Result, Ok, Err, if◌then◌else◌, bytes_eq}
 use Rattle.std.specs.List.{slice_split, before_first, after_first, position_or_len}
+use Rattle.std.specs.Result.{result_ok}
 use Rattle.std.specs.Str.{is_utf8}
 use Rattle.channel_book.specs.declared.faults.BookFault.{BookFault}
-use Rattle.channel_book.specs.Shapes.{Declared, book_of}
-use Rattle.cable_model.specs.declared.events.Event.TheVariants.{Boot, Open, In}
+use Rattle.channel_book.specs.Shapes.{Declared}
+use Rattle.channel_book.specs.Books.{book_of}
 use Rattle.cable_model.specs.declared.verbs.Verb.{Verb}
-use Rattle.cable_model.specs.declared.verbs.Verb.TheVariants.{One, Work}
 use Rattle.cable_model.specs.Script.{header}
-use Rattle.replay_cli.specs.declared.lines.Unread.{Unread}
-use Rattle.replay_cli.specs.declared.lines.Unread.TheVariants as unread
-use Rattle.replay_cli.specs.Words.{◌>>=◌, first_word, after_word, number_in, is_word}
-use Rattle.replay_cli.specs.Built.{is_built_verb, is_in, is_open}
+use Rattle.cable_script.specs.Words.{◌>>=◌, first_word, after_word}
+use Rattle.cable_script.specs.Reading.{verb_of}
+use Rattle.replay_cli.specs.declared.scripts.Unread.{Unread}
+use Rattle.replay_cli.specs.declared.scripts.Unread.TheVariants as unread
+use Rattle.replay_cli.specs.Built.{is_built_book, is_built_verb}
 
 -- reading gave, seen by view, what is expected, unless memory ran out
 abbrev pub Fails : {Y : Type 0} → Unread → Option Y → Type 0
@@ -24,65 +25,31 @@ Gives view (Err f) expected = Fails f expected
 
 -- ---- a line
 
-unfoldable pub boot_in : List ℕ → Option Verb
-boot_in rest = do
-  n ← number_in 1 8 rest
-  Some (One (Boot (record { 0 = n })))
-
-unfoldable pub open_in : List ℕ → Option Verb
-open_in rest = do
-  n ← number_in 1 8 (first_word rest)
-  behind ← after_word rest
-  c ← number_in 1 999999999 (first_word behind)
-  token ← after_word behind
-  if is_word token then Some (One (Open (record { 0 = n }) (record { 0 = c }) token)) else None
-
-unfoldable pub text_in : List ℕ → Option Verb
-text_in rest = do
-  c ← number_in 1 999999999 (first_word rest)
-  text ← after_word rest
-  Some (One (In (record { 0 = c }) text))
-
-unfoldable pub work_in : List ℕ → Option Verb
-work_in rest = do
-  c ← number_in 1 999999999 (first_word rest)
-  behind ← after_word rest
-  at ← number_in 0 9007199254740991 (first_word behind)
-  last ← after_word behind
-  puts ← number_in 0 1000 last
-  Some (Work (record { 0 = c }) (record { 0 = at }) puts)
-
-abbrev pub verb_named : List ℕ → List ℕ → Option Verb
-verb_named name rest =
-    if bytes_eq name (codes "boot") then boot_in rest
-    else (if bytes_eq name (codes "open") then open_in rest
-    else (if bytes_eq name (codes "in") then text_in rest
-    else (if bytes_eq name (codes "work") then work_in rest else None)))
-
--- the verb of a line of text
-abbrev pub verb_in : List ℕ → Option Verb
-verb_in line = after_word line >>= λ rest. verb_named (first_word line) rest
-
 -- a line's text: UTF-8 of at most 1,200,000 bytes
 abbrev pub line_text : List ℕ → Option (List ℕ)
 line_text line = if nat_le (length line) 1200000 && is_utf8 line then Some line else None
 
--- the verb of a line
-abbrev pub verb_of : List ℕ → Option Verb
-verb_of line = line_text line >>= verb_in
+-- a line of at most 1,200,000 bytes
+abbrev pub short_line : List ℕ → Option (List ℕ)
+short_line line = if nat_le (length line) 1200000 then Some line else None
+
+-- the verb of such a line
+abbrev pub short_verb_of : List ℕ → Option Verb
+short_verb_of line = short_line line >>= λ short. result_ok (verb_of short)
 
 -- the verb of a line that is built
-abbrev pub built_verb_of : Declared → List ℕ → Option Verb
-built_verb_of book line = verb_of line >>= λ verb. (if is_built_verb book verb then Some verb else None)
+abbrev pub built_verb_of : List ℕ → Option Verb
+built_verb_of line = short_verb_of line >>= λ verb. (if is_built_verb verb then Some verb else None)
 
 -- the verbs of what stands between line feeds. Behind the last one stands nothing
-abbrev pub verbs_of : Declared → List (List ℕ) → Option (List Verb)
-verbs_of book [] = None
-verbs_of book (line ∷ []) = if length line == 0 then Some [] else None
-verbs_of book (line ∷ next ∷ parts) = built_verb_of book line >>= λ verb. (verbs_of book (next ∷ parts) >>= λ verbs. Some (verb ∷ verbs))
+abbrev pub verbs_of : List (List ℕ) → Option (List Verb)
+verbs_of [] = None
+verbs_of (line ∷ []) = if length line == 0 then Some [] else None
+verbs_of (line ∷ next ∷ parts) = built_verb_of line >>= λ verb. (verbs_of (next ∷ parts) >>= λ verbs. Some (verb ∷ verbs))
 
+-- a book that is built
 abbrev pub declared_in : Result Declared BookFault → Option Declared
-declared_in (Ok book) = Some book
+declared_in (Ok book) = if is_built_book book then Some book else None
 declared_in (Err fault) = None
 
 -- ---- the script
@@ -111,12 +78,9 @@ pub record Read : Type 0 where
   pub book : Declared
   pub verbs : List Verb
 
-abbrev pub are_few : List Verb → Bool
-are_few verbs = nat_le (count_by is_in verbs) 100 && nat_le (count_by is_open verbs) 1000
-
 -- the verbs behind the book
 abbrev pub script_with : Declared → List ℕ → Option Read
-script_with book rest = verbs_of book (parts_of rest) >>= λ verbs. (if are_few verbs then Some (record { book = book; verbs = verbs }) else None)
+script_with book rest = verbs_of (parts_of rest) >>= λ verbs. Some (record { book = book; verbs = verbs })
 
 abbrev pub script_of : List ℕ → Option Read
 script_of bytes = do

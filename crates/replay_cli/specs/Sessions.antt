@@ -1,45 +1,68 @@
 -- What a running session holds, and when it follows a history of the model.
-use Rattle.std.specs.Prelude.{◌≡◌, ◌≢◌, ℕ, ◌-◌, ◌&&◌, not, ltb, leb, Bool, true, false, List, [], length, Option, None, Some, IsSome, is_some, is_none, Ok}
-use Rattle.std.specs.Ordering.{nat_cmp}
-use Rattle.std.specs.BTreeMap.{get, btree_map_len}
-use Rattle.cable_json.specs.declared.commands.Command.TheVariants.{Subscribe}
-use Rattle.cable_json.specs.Commands.{command_of}
-use Rattle.channel_book.specs.Shapes.{Declared}
-use Rattle.channel_book.specs.Answers.{identified_by}
+use Rattle.std.specs.Prelude.{◌≡◌, ⊤, ℕ, ◌&&◌, not, ltb, leb, length, filter, map, Bool, true, false, cond, List, [], ◌∷◌, Option, None, Some, is_some, Ok}
+use Rattle.channel_book.specs.declared.answers.Answer.{Answer}
 use Rattle.cable_model.specs.declared.events.Event.{Event}
 use Rattle.cable_model.specs.declared.events.Event.TheVariants as event
+use Rattle.cable_model.specs.declared.lines.Line.TheVariants as line
+use Rattle.cable_model.specs.declared.notes.Note.TheVariants as note
 use Rattle.cable_model.specs.Limits.{most_connections, most_waiting}
+use Rattle.cable_model.specs.Plans.{Callbacks}
 use Rattle.cable_model.specs.Steps.{Step}
-use Rattle.cable_model.specs.Wants.{user_of}
-use Rattle.cable_model.specs.Pieces.{unseated, seat}
-use Rattle.cable_model.specs.Possible.{opened, is_opened, is_booted}
-use Rattle.cable_model.specs.History.{Rules, World, is_idle, happen}
+use Rattle.cable_model.specs.Possible.{is_opened, is_booted, is_command}
+use Rattle.cable_model.specs.Pieces.{Placed}
+use Rattle.cable_model.specs.Table.{TableStep}
+use Rattle.cable_model.specs.History.{Rules, World, start, is_idle, happen, run}
 use Rattle.cable_model.specs.Transcript.{said}
-use Rattle.replay_cli.specs.declared.seats.Seat.{Seat}
-use Rattle.replay_cli.specs.declared.sessions.Said.{Said}
+use Rattle.conn_seat.specs.Seats.{Seated, Becomes, vacant}
+use Rattle.node_seats.specs.declared.opened.Opened.{Opened}
+use Rattle.node_seats.specs.declared.opened.Opened.TheVariants as kept
+use Rattle.node_seats.specs.Numbers.{Numbers, opened_at, seat_at, is_receiving_in, live_among, with_new}
+use Rattle.node_seats.specs.AreSeats.{AreSeats}
+use Rattle.table_core.specs.Memory.{MemRows}
+use Rattle.table_core.specs.Shown.{Shows}
+use Rattle.table_core.specs.Tables.{TableState, IsWithinLimits}
+use Rattle.replay_cli.specs.declared.saying.Said.{Said}
 use Rattle.replay_cli.specs.declared.sessions.Session.{Session}
-use Rattle.replay_cli.specs.Seats.{seat_of, job_in, IsTidy}
 
--- what a session holds: whether its node is booted, and its connections by their numbers
+-- what a session holds: whether its node is booted, its connections by their numbers, and its table
 pub record Held : Type 0 where
   pub booted : Bool
-  pub seats : ℕ → Option Seat
-  pub count : ℕ
+  pub entries : Numbers
+  pub table : TableState MemRows
 
--- the connection c is what the node's journal makes of it
-abbrev pub Fits : Option Seat → ℕ → Option ℕ → List Step → Type 0
-Fits None c home past = (home ≡ None) × (is_opened c past ≡ false) × (seat c past ≡ unseated)
-Fits (Some s) c home past = (home ≡ Some 1) × (user_of c past ≡ Some s.user) × (seat c past ≡ seat_of s) × IsTidy s
+abbrev pub held : Session → Held
+held s = record { booted = s.booted; entries = s.seats.entries; table = s.table }
 
--- a session whose node has this journal
-pub record Follows (held : Held) (home : ℕ → Option ℕ) (past : List Step) : Type 0 where
-  pub booted : held.booted ≡ is_booted past
-  pub count : length (opened past) ≡ held.count
-  pub fits : (c : ℕ) → Fits (held.seats c) c (home c) past
+-- no turn was delivered, so that no row was put on any connection
+abbrev pub IsTurnless : List Step → Type 0
+IsTurnless [] = ⊤
+IsTurnless (Step.Deliver turn note ∷ past) = ⊥
+IsTurnless (_ ∷ past) = IsTurnless past
 
--- it follows a world: all events were those of node 1
-abbrev pub FollowsWorld : Held → World → Type 0
-FollowsWorld held w = Follows held w.home (w.nodes 1)
+-- each connection that was opened was opened on node 1
+abbrev pub home_on : ℕ → List Step → Option ℕ
+home_on c past = cond (is_opened c past) (Some 1) None
+
+-- a table that shows a journal, and whose next call fails where a fault waits
+pub record IsTableOf (t : TableState MemRows) (past : List TableStep) (failing : Bool) : Type 0 where
+  pub shows : Shows t.keeper.rows t.last.0 past
+  pub unplanned : t.keeper.failures.planned.planned ≡ []
+  pub failing_is : t.keeper.failures.next ≡ failing
+
+-- it follows the world of a history, all events of which were those of node 1
+pub record FollowsWorld (r : Rules) (h : Held) (w : World) : Type 0 where
+  pub events : List Event
+  pub ran : w ≡ run r start events
+  pub booted : h.booted ≡ is_booted (w.nodes 1)
+  pub seats : AreSeats (w.nodes 1) h.entries
+  pub home : (c : ℕ) → w.home c ≡ home_on c (w.nodes 1)
+  pub puts : (c : ℕ) → w.puts c ≡ []
+  pub turnless : IsTurnless (w.nodes 1)
+  pub table : IsTableOf h.table w.table w.failing
+
+-- there is a history that it follows
+abbrev pub FollowsSome : Rules → Held → Type 0
+FollowsSome r h = (w : World) × FollowsWorld r h w
 
 -- ---- what a step says
 
@@ -50,56 +73,69 @@ idle_said = record { idle = true; lines = [] }
 abbrev pub silent_said : Said
 silent_said = record { idle = false; lines = [] }
 
--- at c stands this, and elsewhere what stood before
-pub record Changes (old new : ℕ → Option Seat) (c : ℕ) (seat : Option Seat) : Type 0 where
-  pub at : new c ≡ seat
-  pub others : (d : ℕ) → c ≢ d → new d ≡ old d
+-- a store event that failed says a note of no connection
+abbrev pub refused_said : Said
+refused_said = record { idle = false; lines = line.Note None note.StoreRefused ∷ [] }
 
 -- in each world that is followed, what was said is what the event says, and what came of it is followed
 pub record StepsAs (r : Rules) (e : Event) (old : Held) (said_is : Said) (new : Held) : Type 0 where
-  pub idle : (w : World) → FollowsWorld old w → said_is.idle ≡ is_idle r w e
-  pub lines : (w : World) → FollowsWorld old w → said_is.lines ≡ said r w e
-  pub follows : (w : World) → FollowsWorld old w → FollowsWorld new (happen r w e)
-
--- what a session holds
-abbrev pub held : Session → Held
-held s = record { booted = s.booted; seats = get nat_cmp s.seats; count = btree_map_len s.seats }
+  pub idle : (w : World) → FollowsWorld r old w → said_is.idle ≡ is_idle r w e
+  pub lines : (w : World) → FollowsWorld r old w → said_is.lines ≡ said r w e
+  pub follows : (w : World) → FollowsWorld r old w → FollowsWorld r new (happen r w e)
 
 -- a connection may be opened under this number
 abbrev pub may_open : Held → ℕ → Bool
-may_open h c = h.booted && is_none (h.seats c) && ltb h.count most_connections
+may_open h c = h.booted && not (is_some (opened_at c h.entries)) && ltb (live_among h.entries) most_connections
 
--- a subscribe waits and none is taken
-abbrev pub may_take : Option Seat → Bool
-may_take None = false
-may_take (Some s) = not (ltb s.done s.taken) && ltb 0 (length s.subscribes - s.taken)
+-- what an Open keeps of its number
+abbrev pub OpensAs : ℕ → Option (List ℕ) → Numbers → Numbers → Type 0
+OpensAs c None v new = new ≡ with_new c kept.Over v
+OpensAs c (Some user) v new = (s : Seated) × Becomes (vacant user) s × (new ≡ with_new c (kept.Live s) v)
 
-abbrev pub may_finish : Option Seat → Bool
-may_finish None = false
-may_finish (Some s) = is_some (job_in s)
+abbrev pub is_receiving_one : Option Opened → Bool
+is_receiving_one None = false
+is_receiving_one (Some o) = is_receiving_in o
 
-abbrev pub is_full : Option Seat → Bool
-is_full None = false
-is_full (Some s) = leb most_waiting (length s.subscribes - s.taken)
+-- the number is live and not closing
+abbrev pub receiving_at : ℕ → Numbers → Bool
+receiving_at c v = is_receiving_one (opened_at c v)
 
--- the text is a subscribe
-abbrev pub Subscribes : List ℕ → Type 0
-Subscribes text = (identifier : List ℕ) × (command_of text ≡ Ok (Subscribe identifier))
+abbrev pub is_busy_in : Option Seated → Bool
+is_busy_in None = false
+is_busy_in (Some s) = leb most_waiting (length (filter is_command (map (λ (p : Placed). p.piece) s.waiting)))
 
--- the events that a session of this stage steps: of node 1, with known tokens, and subscribes
-abbrev pub IsPlayed : Declared → Event → Type 0
-IsPlayed book (event.Boot node) = node.0 ≡ 1
-IsPlayed book (event.Open node conn token) = (node.0 ≡ 1) × IsSome (identified_by book token)
-IsPlayed book (event.In conn text) = Subscribes text
-IsPlayed book (event.Drop conn) = ⊥
-IsPlayed book (event.Stop node) = ⊥
-IsPlayed book (event.Take conn) = Unit {0}
-IsPlayed book (event.Put conn at) = Unit {0}
-IsPlayed book (event.Finish conn) = Unit {0}
-IsPlayed book (event.Cast at channel payload) = ⊥
-IsPlayed book (event.Trim now retention batch) = ⊥
-IsPlayed book (event.Ask node) = ⊥
-IsPlayed book (event.Read node) = ⊥
-IsPlayed book (event.Deliver node) = ⊥
-IsPlayed book (event.Beat node now) = ⊥
-IsPlayed book event.Fault = ⊥
+-- the number is live, and as many of its commands wait as may
+abbrev pub is_busy_at : ℕ → Numbers → Bool
+is_busy_at c v = is_busy_in (seat_at c v)
+
+abbrev pub has_job_in : Option Seated → Bool
+has_job_in None = false
+has_job_in (Some s) = is_some s.job
+
+-- the number is live, and a job is out
+abbrev pub has_job_at : ℕ → Numbers → Bool
+has_job_at c v = has_job_in (seat_at c v)
+
+-- no answer has broadcasts
+pub record NoCasts (r : Callbacks) : Type 0 where
+  pub subscribed : (user identifier : List ℕ) (a : Answer) → r.subscribed user identifier ≡ Ok a → a.casts ≡ []
+  pub unsubscribed : (user identifier : List ℕ) (a : Answer) → r.unsubscribed user identifier ≡ Ok a → a.casts ≡ []
+  pub perform : (user identifier payload : List ℕ) (a : Answer) → r.perform user identifier payload ≡ Ok a → a.casts ≡ []
+
+-- the events that a session of this stage steps: those of node 1 but its turns, and those of the table within its limits
+abbrev pub IsPlayed : Event → Type 0
+IsPlayed (event.Boot node) = node.0 ≡ 1
+IsPlayed (event.Open node conn token) = node.0 ≡ 1
+IsPlayed (event.In conn text) = Unit {0}
+IsPlayed (event.Drop conn) = Unit {0}
+IsPlayed (event.Stop node) = node.0 ≡ 1
+IsPlayed (event.Take conn) = Unit {0}
+IsPlayed (event.Put conn at) = Unit {0}
+IsPlayed (event.Finish conn) = Unit {0}
+IsPlayed (event.Cast at channel payload) = IsWithinLimits channel payload at.0
+IsPlayed (event.Trim now retention batch) = Unit {0}
+IsPlayed (event.Ask node) = ⊥
+IsPlayed (event.Read node) = ⊥
+IsPlayed (event.Deliver node) = ⊥
+IsPlayed (event.Beat node now) = node.0 ≡ 1
+IsPlayed event.Fault = Unit {0}

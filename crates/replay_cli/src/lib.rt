@@ -3,16 +3,15 @@
 
 mod inputs;
 mod laws;
-mod lines;
+mod modes;
 mod outputs;
 mod performing;
 mod printing;
 mod replays;
 mod running;
+mod saying;
 mod scripts;
-mod seats;
 mod sessions;
-mod words;
 
 pub use laws::scripts_are_read;
 pub use replays::replay;

@@ -1,18 +1,19 @@
-ghost use Rattle.std.specs.Prelude.{◌≡◌, ◌+◌, ◌^◌, ◌<◌, ◌≤◌, true, length, OnOk};
-ghost use Rattle.std.specs.List.{list_all};
+ghost use Rattle.std.specs.Prelude.{◌≡◌, ◌+◌, ◌^◌, ◌<◌, ◌≤◌, All, length, OnOk};
 ghost use Rattle.cable_model.specs.History.{World};
-ghost use Rattle.cable_model.specs.Script.{rules_of};
-ghost use Rattle.replay_cli.specs.Built.{is_built_verb};
-ghost use Rattle.replay_cli.specs.Sessions.{held, FollowsWorld};
+ghost use Rattle.cable_model.specs.Script.{callbacks_of, rules_of};
+ghost use Rattle.replay_cli.specs.Sessions.{held, FollowsWorld, FollowsSome, NoCasts};
+ghost use Rattle.replay_cli.specs.Running.{IsPlayedLine};
 ghost use Rattle.replay_cli.specs.Replay.{Works, Performs};
 
+use crate::modes::Mode;
 use crate::outputs::write_all;
-use crate::printing::end_text;
-use crate::running::{Tally, expand, run_events};
+use crate::printing::tail_text;
+use crate::running::{Tally, run_events};
 use crate::scripts::Script;
 use crate::sessions::Session;
 use cable_base::{Sink, Trouble};
 use cable_model::Verb;
+use cable_script::expand;
 use std::alloc::Global;
 
 /// Works a line: steps its events and writes what they say.
@@ -23,10 +24,12 @@ pub fn work_line<K: Sink>(
     sink: &mut K,
     tally: &mut Tally,
 ) -> Result<(), Trouble>
-    requires built { is_built_verb session.old.book verb.now ≡ true }
+    requires plain { NoCasts (callbacks_of session.old.book) }
+    requires stands { FollowsSome (rules_of session.old.book) (held session.old) }
+    requires played { IsPlayedLine verb.now }
     requires events { tally.old.events + 1002 < 2 ^ 64 }
     requires idle { tally.old.idle ≤ tally.old.events }
-    ensures works { (w : World) → FollowsWorld (held session.old) w
+    ensures works { (w : World) → FollowsWorld (rules_of session.old.book) (held session.old) w
         → Works (rules_of session.old.book) w verb.now (held session.new) (record {
           taken = K.taken sink.old;
           taken_behind = K.taken sink.new;
@@ -44,11 +47,17 @@ pub fn work_line<K: Sink>(
     write_all(sink, &text)
 }
 
-/// Performs a script: works its lines, one after the other, and writes the end line.
-pub fn perform<K: Sink>(alloc: Global, script: Script, sink: &mut K) -> Result<(), Trouble>
-    requires built { list_all (is_built_verb script.book) script.verbs.items ≡ true }
+/// Performs a script: works its lines, one after the other, and writes what stands behind them.
+pub fn perform<K: Sink>(
+    alloc: Global,
+    mode: Mode,
+    script: Script,
+    sink: &mut K,
+) -> Result<(), Trouble>
+    requires plain { NoCasts (callbacks_of script.book) }
+    requires played { All IsPlayedLine script.verbs.items }
     requires few { length script.verbs.items ≤ 2 ^ 40 }
-    ensures { Performs (record { book = script.book; verbs = script.verbs.items }) (record {
+    ensures { Performs mode (record { book = script.book; verbs = script.verbs.items }) (record {
       taken = K.taken sink.old;
       taken_behind = K.taken sink.new;
       faults = K.faults sink.old;
@@ -56,11 +65,11 @@ pub fn perform<K: Sink>(alloc: Global, script: Script, sink: &mut K) -> Result<(
     }) result }
 {
     let Script { book, verbs } = script;
-    let mut session = Session::begin(alloc, book);
-    let mut tally = Tally { events: 0, idle: 0 };
+    let mut session = Session::begin(alloc, book)?;
+    let mut tally = Tally::empty();
     for verb in verbs.as_slice() {
         work_line(alloc, &mut session, verb, sink, &mut tally)?;
     }
-    let end = end_text(alloc, tally.events, tally.idle)?;
+    let end = tail_text(alloc, mode, &tally)?;
     write_all(sink, end.as_str().as_bytes())
 }

@@ -1,8 +1,11 @@
 ghost use Rattle.std.specs.Prelude.{◌≡◌, ◌++◌, IfOk, OnOk, string_bytes};
-ghost use Rattle.cable_model.specs.Transcript.{note_text, line_text, ended, end_line, lines_text};
+ghost use Rattle.cable_model.specs.Transcript.{note_text, line_text, ended, end_line, lines_text, totals_line};
+ghost use Rattle.replay_cli.specs.Modes.{tail_of};
 
+use crate::modes::Mode;
+use crate::running::Tally;
 use cable_base::OutOfMemory;
-use cable_model::{Line, Note};
+use cable_model::{Line, Note, Totals};
 use std::alloc::Global;
 
 /// The text of a note.
@@ -61,9 +64,31 @@ pub fn push_lines(alloc: Global, out: &mut Vec<u8>, lines: &[Line]) -> Result<()
     Ok(())
 }
 
-/// The last line of a transcript, with its line feed.
-pub fn end_text(alloc: Global, events: u64, idle: u64) -> Result<String, OutOfMemory>
+/// The end line, with its line feed.
+fn end_text(alloc: Global, events: u64, idle: u64) -> Result<String, OutOfMemory>
     ensures { IfOk result (λ s. string_bytes s ≡ ended (end_line events idle)) }
 {
     Ok(format!(in alloc; "end events={} idle={}\n", events, idle)?)
+}
+
+/// The totals line, with its line feed.
+fn totals_text(alloc: Global, totals: &Totals) -> Result<String, OutOfMemory>
+    ensures { IfOk result (λ s. string_bytes s ≡ ended (totals_line totals.now)) }
+{
+    Ok(format!(in alloc;
+        "totals rows={} trimmed={} texts={} notes={}\n",
+        totals.rows, totals.trimmed, totals.texts, totals.notes
+    )?)
+}
+
+/// What stands behind the lines of the events: the end line, and the totals line where it is asked for.
+pub fn tail_text(alloc: Global, mode: Mode, tally: &Tally) -> Result<String, OutOfMemory>
+    ensures { IfOk result (λ s. string_bytes s ≡ tail_of mode tally.now.events tally.now.idle tally.now.totals) }
+{
+    let mut text = end_text(alloc, tally.events, tally.idle)?;
+    match mode {
+        Mode::Transcript => {}
+        Mode::Totals => text.push_str(totals_text(alloc, &tally.totals)?.as_str())?,
+    }
+    Ok(text)
 }

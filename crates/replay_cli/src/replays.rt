@@ -1,12 +1,13 @@
-ghost use Rattle.std.specs.Prelude.{◌≡◌, ◌<◌, ◌≤◌, ◌↔◌, length};
+ghost use Rattle.std.specs.Prelude.{◌≡◌, ◌↔◌, None, map, string_bytes};
 ghost use Rattle.cable_model.specs.declared.statuses.Status.TheVariants as status;
+ghost use Rattle.replay_cli.specs.Modes.{mode_of};
 ghost use Rattle.replay_cli.specs.Replay.{OutcomeBy, IsRead, Outcome, IsComplete};
 
 use crate::inputs::{Unfinished, read_all};
-use crate::lines::Unread;
+use crate::modes::mode_of;
 use crate::performing::perform;
-use crate::scripts::read_script;
-use cable_base::{Sink, Source, Trouble};
+use crate::scripts::{Unread, read_script};
+use cable_base::{Sink, Source, Trouble, squeezing_keeps_the_value};
 use cable_model::{BreakReason, Status};
 use std::alloc::Global;
 
@@ -17,9 +18,9 @@ fn replayed<S: Source, K: Sink>(
     source: &mut S,
     sink: &mut K,
 ) -> Status
-    ensures usage { (result ≡ status.Usage) ↔ (0 < length words.now) }
+    ensures usage { (result ≡ status.Usage) ↔ (mode_of (map string_bytes words.now) ≡ None) }
     ensures outcome { OutcomeBy IsRead result (record {
-      words = length words.now;
+      words = map string_bytes words.now;
       source = record {
         left = S.left source.old;
         left_behind = S.left source.new;
@@ -36,9 +37,9 @@ fn replayed<S: Source, K: Sink>(
       };
     }) }
 {
-    if !words.is_empty() {
+    let Some(mode) = mode_of(words) else {
         return Status::Usage;
-    }
+    };
     let mut text = Vec::new(alloc);
     match read_all(&mut text, source) {
         Ok(()) => {}
@@ -56,30 +57,33 @@ fn replayed<S: Source, K: Sink>(
         }
         Err(Unread::OutOfMemory) => return Status::OutOfMemory,
     };
-    match perform(alloc, script, sink) {
+    // So each cast of the script has a payload of squeezed JSON.
+    squeezing_keeps_the_value();
+    match perform(alloc, mode, script, sink) {
         Ok(()) => Status::Ok,
         Err(Trouble::Failed) => Status::WriteFault,
         Err(Trouble::OutOfMemory) => Status::OutOfMemory,
     }
 }
 
-/// Replays a session script: reads it from the source and writes its transcript to the sink.
+/// Replays a session script: reads it from the source and writes its transcript to the sink, with a line of totals behind it where the
+/// words are `--totals`.
 ///
-/// - `Ok`: the source was read to its end, its bytes are a built script, and its transcript is written.
-/// - `Usage`: there are words. Nothing is read or written.
+/// - `Ok`: the source was read to its end, its bytes are a built script, and all is written.
+/// - `Usage`: the words are neither none nor `--totals`. Nothing is read or written.
 /// - `BadScript`: the source was read to its end, and its bytes are no built script. Nothing is written.
 /// - `ReadFault`: the source failed. Nothing is written.
 /// - `TooMuch`: the source gave more than 2^40 bytes. Nothing is written.
-/// - `WriteFault`, `OutOfMemory`: a beginning of the transcript is written.
+/// - `WriteFault`, `OutOfMemory`: a beginning of what was to be written is written.
 pub fn replay<S: Source, K: Sink>(
     alloc: Global,
     words: &[String],
     source: &mut S,
     sink: &mut K,
 ) -> Status
-    ensures usage { (result ≡ status.Usage) ↔ (0 < length words.now) }
+    ensures usage { (result ≡ status.Usage) ↔ (mode_of (map string_bytes words.now) ≡ None) }
     ensures outcome { Outcome result (record {
-      words = length words.now;
+      words = map string_bytes words.now;
       source = record {
         left = S.left source.old;
         left_behind = S.left source.new;
@@ -97,7 +101,7 @@ pub fn replay<S: Source, K: Sink>(
     }) }
 
     // A built script is replayed, unless something fails or memory runs out.
-    ensures complete { IsComplete result (length words.now) (S.left source.old)
+    ensures complete { IsComplete result (map string_bytes words.now) (S.left source.old)
         (S.faults source.old) (S.faults source.new) (K.faults sink.old) (K.faults sink.new) }
 {
     replayed(alloc, words, source, sink)

@@ -1,53 +1,67 @@
-ghost use Rattle.std.specs.Prelude.{◌≡◌, ◌+◌, ◌<◌, ◌≤◌, ◌^◌, ◌*◌, ◌∷◌, [], ◌++◌, All, IfOk, OnOk, length, replicate};
-ghost use Rattle.cable_model.specs.Script.{rules_of, expand};
-ghost use Rattle.cable_model.specs.declared.events.Event.TheVariants as event;
-ghost use Rattle.replay_cli.specs.Sessions.{held, IsPlayed};
+ghost use Rattle.std.specs.Prelude.{◌≡◌, ◌+◌, ◌<◌, ◌≤◌, ◌^◌, ◌∷◌, [], All, IfOk, OnOk, length};
+ghost use Rattle.cable_model.specs.Script.{callbacks_of, rules_of};
+ghost use Rattle.cable_model.specs.Transcript.{with_line, with_lines, no_totals};
+ghost use Rattle.replay_cli.specs.Sessions.{held, FollowsSome, IsPlayed, NoCasts};
 ghost use Rattle.replay_cli.specs.Running.{RunsAs};
 
 use crate::printing::push_lines;
 use crate::sessions::Session;
-use cable_base::{ConnNo, Millis, OutOfMemory};
-use cable_model::{Event, Verb};
+use cable_base::OutOfMemory;
+use cable_model::{Event, Line, Totals};
 use std::alloc::Global;
 
-/// How many events were stepped, and how many of them were idle.
+/// How many events were stepped, how many of them were idle, and what their lines come to.
 #[derive(Clone, Copy, Debug, PartialEq, Eq)]
 pub struct Tally {
     pub events: u64,
     pub idle: u64,
+    pub totals: Totals,
 }
 
-fn worked(alloc: Global, conn: ConnNo, at: Millis, puts: u64) -> Result<Vec<Event>, OutOfMemory>
-    ensures { IfOk result (λ v. v.items ≡ (event.Take conn ∷ replicate puts (event.Put conn at)) ++ event.Finish conn ∷ []) }
-{
-    let mut events = Vec::new(alloc);
-    events.push(Event::Take { conn })?;
-    for _ in 0..puts {
-        events.push(Event::Put { conn, at })?;
+impl Tally {
+    /// Nothing was stepped.
+    pub fn empty() -> Tally
+        ensures { result ≡ record { events = 0; idle = 0; totals = no_totals } }
+    {
+        Tally {
+            events: 0,
+            idle: 0,
+            totals: Totals {
+                rows: 0,
+                trimmed: 0,
+                texts: 0,
+                notes: 0,
+            },
+        }
     }
-    events.push(Event::Finish { conn })?;
-    Ok(events)
 }
 
-/// The events that a line stands for.
-pub fn expand(alloc: Global, verb: &Verb) -> Result<Vec<Event>, OutOfMemory>
-    ensures { IfOk result (λ v. v.items ≡ expand verb.now) }
+/// A count that would pass its end is answered as want of memory.
+fn more(count: u64, by: u64) -> Result<u64, OutOfMemory>
+    ensures { IfOk result (λ n. n ≡ count + by) }
 {
-    match verb {
-        Verb::One { event } => {
-            let mut events = Vec::new(alloc);
-            events.push(event.copy(alloc)?)?;
-            Ok(events)
-        }
-        Verb::Work { conn, at, puts } => worked(alloc, *conn, *at, *puts),
-        Verb::Poll { node } => {
-            let mut events = Vec::new(alloc);
-            events.push(Event::Ask { node: *node })?;
-            events.push(Event::Read { node: *node })?;
-            events.push(Event::Deliver { node: *node })?;
-            Ok(events)
-        }
+    count.checked_add(by).ok_or(OutOfMemory)
+}
+
+fn count_line(totals: &mut Totals, line: &Line) -> Result<(), OutOfMemory>
+    ensures { OnOk result (totals.new ≡ with_line totals.old line.now) }
+{
+    match line {
+        Line::Text { .. } => totals.texts = more(totals.texts, 1)?,
+        Line::Note { .. } => totals.notes = more(totals.notes, 1)?,
+        Line::Row { .. } => totals.rows = more(totals.rows, 1)?,
+        Line::Trimmed { count } => totals.trimmed = more(totals.trimmed, *count)?,
     }
+    Ok(())
+}
+
+fn count_lines(totals: &mut Totals, lines: &[Line]) -> Result<(), OutOfMemory>
+    ensures { OnOk result (totals.new ≡ with_lines totals.old lines.now) }
+{
+    for line in lines {
+        count_line(totals, line)?;
+    }
+    Ok(())
 }
 
 /// Steps one event, writes its lines behind the text, and counts it.
@@ -58,7 +72,9 @@ fn run_event(
     text: &mut Vec<u8>,
     tally: &mut Tally,
 ) -> Result<(), OutOfMemory>
-    requires played { IsPlayed session.old.book event.now }
+    requires plain { NoCasts (callbacks_of session.old.book) }
+    requires stands { FollowsSome (rules_of session.old.book) (held session.old) }
+    requires played { IsPlayed event.now }
     requires events { tally.old.events + 1 < 2 ^ 64 }
     requires idle { tally.old.idle ≤ tally.old.events }
     ensures runs { OnOk result (RunsAs (rules_of session.old.book) (event.now ∷ []) (held session.old) (held session.new) text.old.items text.new.items tally.old tally.new) }
@@ -67,6 +83,7 @@ fn run_event(
 {
     let said = session.step(alloc, event)?;
     push_lines(alloc, text, said.lines.as_slice())?;
+    count_lines(&mut tally.totals, said.lines.as_slice())?;
     tally.events += 1;
     if said.idle {
         tally.idle += 1;
@@ -82,7 +99,9 @@ pub fn run_events(
     text: &mut Vec<u8>,
     tally: &mut Tally,
 ) -> Result<(), OutOfMemory>
-    requires played { All (IsPlayed session.old.book) events.now }
+    requires plain { NoCasts (callbacks_of session.old.book) }
+    requires stands { FollowsSome (rules_of session.old.book) (held session.old) }
+    requires played { All IsPlayed events.now }
     requires events { tally.old.events + length events.now < 2 ^ 64 }
     requires idle { tally.old.idle ≤ tally.old.events }
     ensures runs { OnOk result (RunsAs (rules_of session.old.book) events.now (held session.old) (held session.new) text.old.items text.new.items tally.old tally.new) }

@@ -1,24 +1,49 @@
-ghost use Rattle.std.specs.Prelude.{◌≡◌, ◌+◌, ◌≤◌, length, option_map, position, Some, None, bytes_eq, codes, if◌then◌else◌, count_by, IfOk, is_ok};
-ghost use Rattle.channel_book.specs.Shapes.{Declared};
-ghost use Rattle.channel_book.specs.Answers.{channel_of};
-ghost use Rattle.replay_cli.specs.Built.{is_built_verb, is_built_event, subscribes, is_in, is_open};
-ghost use Rattle.replay_cli.specs.Reading.{Gives, first_line, is_feed, behind_header, book_in, built_verb_of, verbs_of, parts_of, are_few, script_with, script_of};
-ghost use Rattle.cable_json.specs.Commands.{command_of};
+ghost use Rattle.std.specs.Prelude.{◌≡◌, ◌+◌, ◌≤◌, length, option_map, position, Some, None, bytes_eq, codes, if◌then◌else◌, IfOk};
+ghost use Rattle.std.specs.List.{list_all};
+ghost use Rattle.replay_cli.specs.Built.{is_quiet_action, is_quiet, is_built_book, is_built_event, is_built_verb};
+ghost use Rattle.replay_cli.specs.Reading.{Gives, first_line, is_feed, behind_header, line_text, book_in, short_verb_of, built_verb_of, verbs_of, parts_of, script_with, script_of};
 
-use crate::lines::{MOST_PUTS, Unread, line_text, read_line};
-use crate::sessions::MOST_TEXT;
-use crate::words::cut_word;
 use cable_base::OutOfMemory;
-use cable_json::{Command, CommandFault, read_command};
 use cable_model::{Event, Verb};
-use channel_book::{Book, BookFault, CallFault, Callbacks};
-use std::alloc::Global;
+use cable_script::{LineFault, cut_word, read_line, utf8_text};
+use channel_book::{Action, Book, BookFault, Channel};
+use std::alloc::{AllocFailed, Global};
 
 const HEADER: &[u8] = b"cable-script 1";
 
-const MOST_TEXTS: usize = 100;
+/// The most bytes of a line, without its line feed.
+const MOST_LINE_BYTES: usize = 1_200_000;
 
-const MOST_OPENS: usize = 1_000;
+const MOST_PUTS: u64 = 1_000;
+
+/// Why a script isn't read: it is no built script, or memory was wanted.
+#[derive(Clone, Copy, Debug, PartialEq, Eq)]
+pub enum Unread {
+    NotBuilt,
+    OutOfMemory,
+}
+
+impl From<OutOfMemory> for Unread {
+    ghost use Rattle.std.specs.Prelude.{if◌then◌else◌, ◌≡◌};
+    ghost use Rattle.replay_cli.specs.declared.scripts.Unread.TheVariants as unread;
+
+    ghost from_gives = { λ _ e. e ≡ unread.OutOfMemory };
+
+    fn from(_e: OutOfMemory) -> Unread {
+        Unread::OutOfMemory
+    }
+}
+
+impl<T: Drop> From<AllocFailed<T>> for Unread {
+    ghost use Rattle.std.specs.Prelude.{◌≡◌};
+    ghost use Rattle.replay_cli.specs.declared.scripts.Unread.TheVariants as unread;
+
+    ghost from_gives = { λ _ e. e ≡ unread.OutOfMemory };
+
+    fn from(_e: AllocFailed<T>) -> Unread {
+        Unread::OutOfMemory
+    }
+}
 
 /// A built script: its book, and what its lines stand for.
 #[derive(Debug, Drop)]
@@ -49,6 +74,49 @@ fn behind_header(bytes: &[u8]) -> Option<&[u8]>
     if line == HEADER { Some(rest) } else { None }
 }
 
+/// The text of a line: UTF-8 of at most 1,200,000 bytes.
+fn line_text(line: &[u8]) -> Option<&str>
+    ensures { option_map (λ s. s.now) result ≡ line_text line.now }
+{
+    if line.len() <= MOST_LINE_BYTES {
+        utf8_text(line)
+    } else {
+        None
+    }
+}
+
+/// An action that wants and stops no streams, and broadcasts nothing.
+fn is_quiet_action(action: &Action) -> bool
+    ensures { result ≡ is_quiet_action action.now }
+{
+    action.casts.as_slice().is_empty()
+        && action.streams.as_slice().is_empty()
+        && action.stops.as_slice().is_empty()
+}
+
+fn are_quiet(actions: &[Action]) -> bool
+    ensures { result ≡ list_all is_quiet_action actions.now }
+{
+    actions.iter().all(is_quiet_action)
+}
+
+/// A channel without streams and broadcasts.
+fn is_quiet(channel: &Channel) -> bool
+    ensures { result ≡ is_quiet channel.now }
+{
+    let rules = &channel.rules;
+    rules.streams.as_slice().is_empty()
+        && rules.enter.as_slice().is_empty()
+        && rules.leave.as_slice().is_empty()
+        && are_quiet(rules.actions.as_slice())
+}
+
+fn is_built_book(book: &Book) -> bool
+    ensures { result ≡ is_built_book book.now }
+{
+    book.channels().iter().all(is_quiet)
+}
+
 /// Reads the line of the book.
 fn read_book(alloc: Global, line: &str) -> Result<Book, Unread>
     ensures { Gives (λ b. b) result (book_in line.now) }
@@ -60,74 +128,66 @@ fn read_book(alloc: Global, line: &str) -> Result<Book, Unread>
     if word != "book" {
         return Err(Unread::NotBuilt);
     }
-    match Book::read(alloc, text) {
-        Ok(book) => Ok(book),
-        Err(BookFault::NotBuilt) => Err(Unread::NotBuilt),
-        Err(BookFault::OutOfMemory) => Err(Unread::OutOfMemory),
+    let book = match Book::read(alloc, text) {
+        Ok(book) => book,
+        Err(BookFault::OutOfMemory) => return Err(Unread::OutOfMemory),
+        Err(_) => return Err(Unread::NotBuilt),
+    };
+    if is_built_book(&book) {
+        Ok(book)
+    } else {
+        Err(Unread::NotBuilt)
     }
 }
 
-/// A subscribe to a channel of the book.
-fn subscribes(alloc: Global, book: &Book, text: &str) -> Result<bool, OutOfMemory>
-    ensures { IfOk result (λ b. b ≡ subscribes book.now (command_of text.now)) }
-{
-    match read_command(alloc, text) {
-        Ok(Command::Subscribe { identifier }) => names_channel(alloc, book, identifier.as_str()),
-        Ok(_) => Ok(false),
-        Err(CommandFault::OutOfMemory) => Err(OutOfMemory),
-        Err(_) => Ok(false),
-    }
-}
-
-fn names_channel(alloc: Global, book: &Book, identifier: &str) -> Result<bool, OutOfMemory>
-    ensures { IfOk result (λ b. b ≡ is_ok (channel_of book.now identifier.now)) }
-{
-    match book.subscribed(alloc, "", identifier) {
-        Ok(_) => Ok(true),
-        Err(CallFault::OutOfMemory) => Err(OutOfMemory),
-        Err(_) => Ok(false),
-    }
-}
-
-fn is_built_event(alloc: Global, book: &Book, event: &Event) -> Result<bool, OutOfMemory>
-    ensures { IfOk result (λ b. b ≡ is_built_event book.now event.now) }
+fn is_built_event(event: &Event) -> bool
+    ensures { result ≡ is_built_event event.now }
 {
     match event {
-        Event::Boot { node } => Ok(node.0 == 1),
-        Event::Open {
-            node,
-            conn: _,
-            token,
-        } => Ok(node.0 == 1 && book.identify(token.as_str()).is_some()),
-        Event::In { conn: _, text } => {
-            if text.as_str().len() > MOST_TEXT {
-                return Ok(false);
-            }
-            subscribes(alloc, book, text.as_str())
-        }
-        _ => Ok(false),
+        Event::Boot { node }
+        | Event::Open { node, .. }
+        | Event::Stop { node }
+        | Event::Beat { node, .. } => node.0 == 1,
+        Event::In { .. }
+        | Event::Drop { .. }
+        | Event::Take { .. }
+        | Event::Finish { .. }
+        | Event::Cast { .. }
+        | Event::Trim { .. }
+        | Event::Fault => true,
+        Event::Put { .. } | Event::Ask { .. } | Event::Read { .. } | Event::Deliver { .. } => false,
     }
 }
 
-fn is_built(alloc: Global, book: &Book, verb: &Verb) -> Result<bool, OutOfMemory>
-    ensures { IfOk result (λ b. b ≡ is_built_verb book.now verb.now) }
+fn is_built(verb: &Verb) -> bool
+    ensures { result ≡ is_built_verb verb.now }
 {
     match verb {
-        Verb::One { event } => is_built_event(alloc, book, event),
-        Verb::Work {
-            conn: _,
-            at: _,
-            puts,
-        } => Ok(*puts <= MOST_PUTS),
-        Verb::Poll { node: _ } => Ok(false),
+        Verb::One { event } => is_built_event(event),
+        Verb::Work { puts, .. } => *puts <= MOST_PUTS,
+        Verb::Poll { .. } => false,
     }
 }
 
-fn built_verb(alloc: Global, book: &Book, line: &[u8]) -> Result<Verb, Unread>
-    ensures { Gives (λ v. v) result (built_verb_of book.now line.now) }
+/// The verb of a line of at most 1,200,000 bytes.
+fn short_verb(alloc: Global, line: &[u8]) -> Result<Verb, Unread>
+    ensures { Gives (λ v. v) result (short_verb_of line.now) }
 {
-    let verb = read_line(alloc, line)?;
-    if is_built(alloc, book, &verb)? {
+    if line.len() > MOST_LINE_BYTES {
+        return Err(Unread::NotBuilt);
+    }
+    match read_line(alloc, line) {
+        Ok(verb) => Ok(verb),
+        Err(LineFault::OutOfMemory) => Err(Unread::OutOfMemory),
+        Err(_) => Err(Unread::NotBuilt),
+    }
+}
+
+fn built_verb(alloc: Global, line: &[u8]) -> Result<Verb, Unread>
+    ensures { Gives (λ v. v) result (built_verb_of line.now) }
+{
+    let verb = short_verb(alloc, line)?;
+    if is_built(&verb) {
         Ok(verb)
     } else {
         Err(Unread::NotBuilt)
@@ -135,14 +195,14 @@ fn built_verb(alloc: Global, book: &Book, line: &[u8]) -> Result<Verb, Unread>
 }
 
 /// Reads the lines behind the book.
-fn read_lines(alloc: Global, book: &Book, text: &[u8]) -> Result<Vec<Verb>, Unread>
-    ensures read { Gives (λ v. v.items) result (verbs_of book.now (parts_of text.now)) }
+fn read_lines(alloc: Global, text: &[u8]) -> Result<Vec<Verb>, Unread>
+    ensures read { Gives (λ v. v.items) result (verbs_of (parts_of text.now)) }
     ensures few { IfOk result (λ v. length v.items ≤ length text.now) }
 {
     let mut verbs = Vec::new(alloc);
     let mut rest = text;
     while let Some((line, behind)) = first_line(rest) {
-        let verb = built_verb(alloc, book, line)?;
+        let verb = built_verb(alloc, line)?;
         verbs.push(verb)?;
         rest = behind;
     }
@@ -153,60 +213,12 @@ fn read_lines(alloc: Global, book: &Book, text: &[u8]) -> Result<Vec<Verb>, Unre
     }
 }
 
-fn is_text(verb: &Verb) -> bool
-    ensures { result ≡ is_in verb.now }
-{
-    matches!(
-        verb,
-        Verb::One {
-            event: Event::In { conn: _, text: _ }
-        }
-    )
-}
-
-fn is_opening(verb: &Verb) -> bool
-    ensures { result ≡ is_open verb.now }
-{
-    matches!(
-        verb,
-        Verb::One {
-            event: Event::Open {
-                node: _,
-                conn: _,
-                token: _
-            }
-        }
-    )
-}
-
-fn texts_in(verbs: &[Verb]) -> usize
-    ensures { result ≡ count_by is_in verbs.now }
-{
-    verbs.iter().filter(|v| is_text(v)).count()
-}
-
-fn opens_in(verbs: &[Verb]) -> usize
-    ensures { result ≡ count_by is_open verbs.now }
-{
-    verbs.iter().filter(|v| is_opening(v)).count()
-}
-
-fn are_few(verbs: &[Verb]) -> bool
-    ensures { result ≡ are_few verbs.now }
-{
-    texts_in(verbs) <= MOST_TEXTS && opens_in(verbs) <= MOST_OPENS
-}
-
 fn read_behind_book(alloc: Global, book: Book, rest: &[u8]) -> Result<Script, Unread>
     ensures read { Gives (λ s. record { book = s.book; verbs = s.verbs.items }) result (script_with book rest.now) }
     ensures few { IfOk result (λ s. length s.verbs.items ≤ length rest.now) }
 {
-    let verbs = read_lines(alloc, &book, rest)?;
-    if are_few(&verbs) {
-        Ok(Script { book, verbs })
-    } else {
-        Err(Unread::NotBuilt)
-    }
+    let verbs = read_lines(alloc, rest)?;
+    Ok(Script { book, verbs })
 }
 
 /// Reads a built script. `NotBuilt` exactly where the bytes are none.

@@ -1,318 +1,322 @@
-ghost use Rattle.std.specs.Prelude.{◌≡◌, ◌+◌, ◌∷◌, ◌++◌, [], map, OnOk, false, IfOk, IsSome, is_some, is_none, if◌then◌else◌, None, Some, Ok, string_bytes};
-ghost use Rattle.std.specs.Ordering.{nat_cmp};
-ghost use Rattle.std.specs.BTreeMap.{get, btree_map_len};
-ghost use Rattle.cable_json.specs.Commands.{command_of};
-ghost use Rattle.cable_json.specs.declared.commands.Command.TheVariants.{Subscribe};
-ghost use Rattle.channel_book.specs.Answers.{identified_by};
+ghost use Rattle.std.specs.Prelude.{◌≡◌, ◌<◌, [], OnOk, true, IfOk, is_some, None, Some, option_map};
 ghost use Rattle.cable_model.specs.declared.events.Event.TheVariants as event;
-ghost use Rattle.cable_model.specs.Script.{rules_of};
+ghost use Rattle.cable_model.specs.Limits.{most_connections};
+ghost use Rattle.cable_model.specs.Script.{callbacks_of, rules_of};
 ghost use Rattle.cable_model.specs.History.{start};
-ghost use Rattle.cable_model.specs.Transcript.{plan_lines, conn_line, conn_note};
-ghost use Rattle.replay_cli.specs.Sessions.{held, StepsAs, Changes, FollowsWorld, IsPlayed, Subscribes, may_open, may_take, may_finish, is_full, idle_said, silent_said};
+ghost use Rattle.cable_model.specs.Pieces.{Placed};
+ghost use Rattle.conn_seat.specs.Seats.{Seated};
+ghost use Rattle.conn_seat.specs.Seated.{plan_of_piece};
+ghost use Rattle.node_seats.specs.declared.opened.Opened.TheVariants as kept;
+ghost use Rattle.node_seats.specs.Numbers.{Rising, live_among, opened_at, seat_at};
+ghost use Rattle.table_core.specs.Tables.{IsWithinLimits};
+ghost use Rattle.replay_cli.specs.Sessions.{held, StepsAs, FollowsWorld, FollowsSome, NoCasts, IsPlayed, OpensAs, may_open, receiving_at, is_busy_at, has_job_at};
 
-use crate::seats::Seat;
-use cable_base::{ConnNo, Listed, OutOfMemory, Text};
-use cable_json::{Command, CommandFault, read_command, welcome};
-use cable_model::{Event, Line, Note, Plan};
+use crate::saying::{
+    Said, command_piece, greeting, idle, lines_of, noted, one_line, pings, silent, store_refused,
+};
+use cable_base::{ConnNo, Millis, NodeNo, OutOfMemory};
+use cable_model::{Event, Line, Note, Origin, Piece, Plan};
 use channel_book::{Book, Callbacks};
+use conn_core::plan;
+use node_seats::Seats;
 use std::alloc::Global;
-use std::collections::BTreeMap;
+use table_core::{MemKeeper, StoreFault, Table};
+
+/// The node of a session.
+const NODE: NodeNo = NodeNo(1);
 
 /// The most bytes of a client's text.
 pub const MOST_TEXT: usize = 65_536;
 
-/// The most subscribes that wait on a connection.
+/// The most commands that wait on a connection.
 const MOST_WAITING: u64 = 256;
 
-/// The most live connections of a node.
-const MOST_CONNECTIONS: usize = 1_000;
-
-/// What an event said: whether it was idle, and its lines.
-#[derive(Debug, Drop)]
-pub struct Said {
-    pub idle: bool,
-    pub lines: Listed<Line>,
-}
-
-/// A session of one node, whose channels have no streams.
+/// A session of one node over a table in memory.
 #[derive(Debug, Drop)]
 pub struct Session {
     pub book: Book,
     pub booted: bool,
-    pub seats: BTreeMap<u64, Seat>,
+    pub seats: Seats,
+    pub table: Table<MemKeeper>,
 }
 
-fn idle(alloc: Global) -> Said
-    ensures { result ≡ idle_said }
-{
-    Said {
-        idle: true,
-        lines: Listed::empty(alloc),
-    }
-}
-
-fn silent(alloc: Global) -> Said
-    ensures { result ≡ silent_said }
-{
-    Said {
-        idle: false,
-        lines: Listed::empty(alloc),
-    }
-}
-
-fn one_line(alloc: Global, line: Line) -> Result<Said, OutOfMemory>
-    ensures { IfOk result (λ s. s ≡ record { idle = false; lines = line ∷ [] }) }
-{
-    let mut lines = Listed::empty(alloc);
-    lines.push(line)?;
-    Ok(Said { idle: false, lines })
-}
-
-fn noted(alloc: Global, conn: ConnNo, note: Note) -> Result<Said, OutOfMemory>
-    ensures { IfOk result (λ s. s ≡ record { idle = false; lines = conn_note conn.0 note ∷ [] }) }
-{
-    one_line(
-        alloc,
-        Line::Note {
-            conn: Some(conn),
-            note,
-        },
-    )
-}
-
-/// The identifier of a subscribe.
-fn identifier_of(alloc: Global, text: &str) -> Result<Text, OutOfMemory>
-    requires { Subscribes text.now }
-    ensures { IfOk result (λ t. command_of text.now ≡ Ok (Subscribe t)) }
-{
-    match read_command(alloc, text) {
-        Ok(Command::Subscribe { identifier }) => Ok(identifier),
-        Err(CommandFault::OutOfMemory) => Err(OutOfMemory),
-        _ => unreachable!(),
-    }
-}
-
-/// The lines of a plan: its texts in order, and then its notes in order.
-fn lines_of(alloc: Global, conn: ConnNo, plan: &Plan) -> Result<Listed<Line>, OutOfMemory>
-    ensures { IfOk result (λ ls. ls ≡ plan_lines conn.0 plan.now) }
-{
-    let mut lines = Listed::empty(alloc);
-    push_texts(alloc, &mut lines, conn, plan.texts.as_slice())?;
-    push_notes(&mut lines, conn, plan.notes.as_slice())?;
-    Ok(lines)
-}
-
-fn push_texts(
+/// Keeps the number: with a connection of the user, or as one that is over.
+fn keep(
+    seats: &mut Seats,
     alloc: Global,
-    lines: &mut Listed<Line>,
     conn: ConnNo,
-    texts: &[Text],
+    user: Option<&str>,
 ) -> Result<(), OutOfMemory>
-    ensures { OnOk result (lines.new ≡ lines.old ++ map (conn_line conn.0) texts.now) }
+    requires unused { opened_at conn.0 seats.old.entries ≡ None }
+    requires room { live_among seats.old.entries < most_connections }
+    ensures opens { OnOk result (OpensAs conn.0 (option_map (λ u. u.now) user.entry) seats.old.entries seats.new.entries) }
+    ensures rising { OnOk result (Rising seats.new.entries) }
 {
-    for text in texts {
-        let text = text.copy(alloc)?;
-        lines.push(Line::Text { conn, text })?;
+    match user {
+        Some(user) => seats.open(alloc, conn, user),
+        None => seats.refuse(conn),
     }
-    Ok(())
-}
-
-fn push_notes(lines: &mut Listed<Line>, conn: ConnNo, notes: &[Note]) -> Result<(), OutOfMemory>
-    ensures { OnOk result (lines.new ≡ lines.old ++ map (conn_note conn.0) notes.now) }
-{
-    for note in notes {
-        lines.push(Line::Note {
-            conn: Some(conn),
-            note: *note,
-        })?;
-    }
-    Ok(())
 }
 
 impl Session {
     /// A session with this book, in which nothing has happened.
-    pub fn begin(alloc: Global, book: Book) -> Session
-        ensures book { result.book ≡ book }
-        ensures follows { FollowsWorld (held result) start }
+    pub fn begin(alloc: Global, book: Book) -> Result<Session, OutOfMemory>
+        ensures book { IfOk result (λ s. s.book ≡ book) }
+        ensures follows { IfOk result (λ s. FollowsWorld (rules_of book) (held s) start) }
     {
-        Session {
+        let Ok(table) = Table::start(alloc, MemKeeper::empty(alloc)) else {
+            return Err(OutOfMemory);
+        };
+        Ok(Session {
             book,
             booted: false,
-            seats: BTreeMap::new(alloc),
-        }
-    }
-
-    /// Takes a connection out, which `put_back` puts back.
-    fn take_out(&mut self, conn: ConnNo) -> Option<Seat>
-        ensures found { result ≡ get nat_cmp self.old.seats conn.0 }
-        ensures gone { Changes (get nat_cmp self.old.seats) (get nat_cmp self.new.seats) conn.0 None }
-        ensures count { btree_map_len self.new.seats + (if is_some result then 1 else 0) ≡ btree_map_len self.old.seats }
-        ensures rest { self.new ≡ record self.old { seats = self.new.seats } }
-    {
-        self.seats.remove(&conn.0)
-    }
-
-    fn put_back(&mut self, conn: ConnNo, seat: Seat) -> Result<(), OutOfMemory>
-        ensures stands { OnOk result (Changes (get nat_cmp self.old.seats) (get nat_cmp self.new.seats) conn.0 (Some seat)) }
-        ensures count { OnOk result (btree_map_len self.new.seats ≡ btree_map_len self.old.seats + (if is_none (get nat_cmp self.old.seats conn.0) then 1 else 0)) }
-        ensures rest { self.new ≡ record self.old { seats = self.new.seats } }
-    {
-        self.seats.insert(conn.0, seat)?;
-        Ok(())
+            seats: Seats::empty(alloc),
+            table,
+        })
     }
 
     fn may_open(&self, conn: ConnNo) -> bool
         ensures { result ≡ may_open (held self.now) conn.0 }
     {
-        self.booted && !self.seats.contains_key(&conn.0) && self.seats.len() < MOST_CONNECTIONS
+        self.booted && !self.seats.is_used(conn) && !self.seats.is_full()
     }
 
-    fn may_take(&self, conn: ConnNo) -> bool
-        ensures { result ≡ may_take (get nat_cmp self.now.seats conn.0) }
+    fn is_live(&self, conn: ConnNo) -> bool
+        ensures { result ≡ is_some (seat_at conn.0 (held self.now).entries) }
     {
-        match self.seats.get(&conn.0) {
-            Some(seat) => !seat.has_job() && seat.waiting() > 0,
+        self.seats.get(conn).is_some()
+    }
+
+    fn is_receiving(&self, conn: ConnNo) -> bool
+        ensures { result ≡ receiving_at conn.0 (held self.now).entries }
+    {
+        match self.seats.get(conn) {
+            Some(seat) => seat.is_receiving(),
             None => false,
         }
     }
 
-    fn may_finish(&self, conn: ConnNo) -> bool
-        ensures { result ≡ may_finish (get nat_cmp self.now.seats conn.0) }
+    /// Whether as many commands wait on the connection as may.
+    fn is_busy(&self, conn: ConnNo) -> bool
+        ensures { result ≡ is_busy_at conn.0 (held self.now).entries }
     {
-        match self.seats.get(&conn.0) {
-            Some(seat) => seat.job().is_some(),
+        match self.seats.get(conn) {
+            Some(seat) => seat.waiting_commands() >= MOST_WAITING,
             None => false,
         }
     }
 
-    fn is_full(&self, conn: ConnNo) -> bool
-        ensures { result ≡ is_full (get nat_cmp self.now.seats conn.0) }
+    fn has_job(&self, conn: ConnNo) -> bool
+        ensures { result ≡ has_job_at conn.0 (held self.now).entries }
     {
-        match self.seats.get(&conn.0) {
-            Some(seat) => seat.waiting() >= MOST_WAITING,
+        match self.seats.get(conn) {
+            Some(seat) => seat.has_job(),
             None => false,
         }
     }
 
-    fn boot(&mut self, alloc: Global) -> Said
-        ensures steps { StepsAs (rules_of self.old.book) (event.Boot (record { 0 = 1 })) (held self.old) result (held self.new) }
+    fn boot(&mut self, alloc: Global) -> Result<Said, OutOfMemory>
+        ensures steps { IfOk result (λ s. StepsAs (rules_of self.old.book) (event.Boot (record { 0 = 1 })) (held self.old) s (held self.new)) }
         ensures book { self.new.book ≡ self.old.book }
     {
         if self.booted {
-            return idle(alloc);
+            return Ok(idle(alloc));
         }
+        self.table.boot(NODE)?;
         self.booted = true;
-        silent(alloc)
+        Ok(silent(alloc))
     }
 
     fn open(&mut self, alloc: Global, conn: ConnNo, token: &str) -> Result<Said, OutOfMemory>
-        requires { IsSome (identified_by self.old.book token.now) }
         ensures steps { IfOk result (λ s. StepsAs (rules_of self.old.book) (event.Open (record { 0 = 1 }) conn token.now) (held self.old) s (held self.new)) }
         ensures book { self.new.book ≡ self.old.book }
     {
         if !self.may_open(conn) {
             return Ok(idle(alloc));
         }
-        let Some(user) = self.book.identify(token) else {
-            unreachable!();
+        let user = self.book.identify(token);
+        let text = greeting(alloc, user)?;
+        let said = one_line(alloc, Line::Text { conn, text })?;
+        keep(&mut self.seats, alloc, conn, user)?;
+        Ok(said)
+    }
+
+    fn leave(&mut self, alloc: Global, conn: ConnNo) -> Result<Said, OutOfMemory>
+        requires { FollowsSome (rules_of self.old.book) (held self.old) }
+        ensures steps { IfOk result (λ s. StepsAs (rules_of self.old.book) (event.Drop conn) (held self.old) s (held self.new)) }
+        ensures book { self.new.book ≡ self.old.book }
+    {
+        if !self.is_receiving(conn) {
+            return Ok(idle(alloc));
+        }
+        self.seats.put(conn, Piece::Gone)?;
+        Ok(silent(alloc))
+    }
+
+    fn stop(&mut self, alloc: Global) -> Said
+        ensures steps { StepsAs (rules_of self.old.book) (event.Stop (record { 0 = 1 })) (held self.old) result (held self.new) }
+        ensures book { self.new.book ≡ self.old.book }
+    {
+        if !self.booted {
+            return idle(alloc);
+        }
+        self.seats.stop();
+        silent(alloc)
+    }
+
+    fn take(&mut self, alloc: Global, conn: ConnNo) -> Said
+        ensures steps { StepsAs (rules_of self.old.book) (event.Take conn) (held self.old) result (held self.new) }
+        ensures book { self.new.book ≡ self.old.book }
+    {
+        if !self.is_live(conn) {
+            return idle(alloc);
+        }
+        if !self.seats.take(conn) {
+            return idle(alloc);
+        }
+        silent(alloc)
+    }
+
+    fn beat(&mut self, alloc: Global, now: Millis) -> Result<Said, OutOfMemory>
+        ensures steps { IfOk result (λ s. StepsAs (rules_of self.old.book) (event.Beat (record { 0 = 1 }) now) (held self.old) s (held self.new)) }
+        ensures book { self.new.book ≡ self.old.book }
+    {
+        if !self.booted {
+            return Ok(idle(alloc));
+        }
+        let conns = self.seats.receiving(alloc)?;
+        let lines = pings(alloc, &conns, now)?;
+        Ok(Said { idle: false, lines })
+    }
+
+    /// The plan of the job that is out on the connection.
+    fn job_plan(&self, alloc: Global, conn: ConnNo) -> Result<Plan, OutOfMemory>
+        requires job { has_job_at conn.0 (held self.now).entries ≡ true }
+        requires stands { FollowsSome (rules_of self.now.book) (held self.now) }
+        ensures { (s : Seated) (q : Placed) → opened_at conn.0 (held self.now).entries ≡ Some (kept.Live s) → s.job ≡ Some q → IfOk result (λ p. p ≡ plan_of_piece (callbacks_of self.now.book) s q.piece) }
+    {
+        let Some(seat) = self.seats.get(conn) else {
+            unreachable!()
         };
-        let user = Text::new(alloc, user)?;
-        let text = welcome(alloc)?;
-        let greeted = one_line(alloc, Line::Text { conn, text })?;
-        self.put_back(conn, Seat::vacant(alloc, user))?;
-        Ok(greeted)
+        let task = seat.task()?;
+        plan(alloc, &task, seat.user(), &self.book)
+    }
+
+    fn finish(&mut self, alloc: Global, conn: ConnNo) -> Result<Said, OutOfMemory>
+        requires plain { NoCasts (callbacks_of self.old.book) }
+        requires stands { FollowsSome (rules_of self.old.book) (held self.old) }
+        ensures steps { IfOk result (λ s. StepsAs (rules_of self.old.book) (event.Finish conn) (held self.old) s (held self.new)) }
+        ensures book { self.new.book ≡ self.old.book }
+    {
+        if !self.has_job(conn) {
+            return Ok(idle(alloc));
+        }
+        let plan = self.job_plan(alloc, conn)?;
+        let lines = lines_of(alloc, conn, &plan)?;
+        self.seats.reserve_plan(conn, &plan)?;
+        self.seats.finish(conn, &plan);
+        Ok(Said { idle: false, lines })
     }
 
     fn arrive(&mut self, alloc: Global, conn: ConnNo, text: &str) -> Result<Said, OutOfMemory>
-        requires { Subscribes text.now }
+        requires stands { FollowsSome (rules_of self.old.book) (held self.old) }
         ensures steps { IfOk result (λ s. StepsAs (rules_of self.old.book) (event.In conn text.now) (held self.old) s (held self.new)) }
         ensures book { self.new.book ≡ self.old.book }
     {
-        if !self.seats.contains_key(&conn.0) {
+        if !self.is_receiving(conn) {
             return Ok(idle(alloc));
         }
         if text.len() > MOST_TEXT {
             return noted(alloc, conn, Note::TooLong);
         }
-        if self.is_full(conn) {
+        if self.is_busy(conn) {
             return noted(alloc, conn, Note::Busy);
         }
-        let identifier = identifier_of(alloc, text)?;
-        let Some(mut seat) = self.take_out(conn) else {
-            unreachable!();
-        };
-        seat.subscribes.push(identifier)?;
-        self.put_back(conn, seat)?;
+        let piece = command_piece(alloc, text)?;
+        self.seats.put(conn, piece)?;
         Ok(silent(alloc))
     }
 
-    fn take(&mut self, alloc: Global, conn: ConnNo) -> Result<Said, OutOfMemory>
-        ensures steps { IfOk result (λ s. StepsAs (rules_of self.old.book) (event.Take conn) (held self.old) s (held self.new)) }
+    /// Ids that are spent are a count that would pass its end, which is answered as want of memory.
+    fn cast(
+        &mut self,
+        alloc: Global,
+        at: Millis,
+        channel: &str,
+        payload: &str,
+    ) -> Result<Said, OutOfMemory>
+        requires limits { IsWithinLimits channel.now payload.now at.0 }
+        ensures steps { IfOk result (λ s. StepsAs (rules_of self.old.book) (event.Cast at channel.now payload.now) (held self.old) s (held self.new)) }
         ensures book { self.new.book ≡ self.old.book }
     {
-        if !self.may_take(conn) {
-            return Ok(idle(alloc));
+        match self.table.commit(Origin::Cast, channel, payload, at) {
+            Ok(id) => one_line(alloc, Line::Row { id }),
+            Err(StoreFault::Failed) => store_refused(alloc),
+            Err(StoreFault::IdsSpent | StoreFault::OutOfMemory) => Err(OutOfMemory),
         }
-        let Some(mut seat) = self.take_out(conn) else {
-            unreachable!();
-        };
-        seat.taken += 1;
-        self.put_back(conn, seat)?;
-        Ok(silent(alloc))
     }
 
-    fn finish(&mut self, alloc: Global, conn: ConnNo) -> Result<Said, OutOfMemory>
-        ensures steps { IfOk result (λ s. StepsAs (rules_of self.old.book) (event.Finish conn) (held self.old) s (held self.new)) }
+    fn trim(
+        &mut self,
+        alloc: Global,
+        now: Millis,
+        retention: Millis,
+        batch: u64,
+    ) -> Result<Said, OutOfMemory>
+        ensures steps { IfOk result (λ s. StepsAs (rules_of self.old.book) (event.Trim now retention batch) (held self.old) s (held self.new)) }
         ensures book { self.new.book ≡ self.old.book }
     {
-        if !self.may_finish(conn) {
-            return Ok(idle(alloc));
+        match self.table.trim(now, retention, batch) {
+            Ok(count) => one_line(alloc, Line::Trimmed { count }),
+            Err(StoreFault::Failed) => store_refused(alloc),
+            Err(StoreFault::IdsSpent | StoreFault::OutOfMemory) => Err(OutOfMemory),
         }
-        let Some(mut seat) = self.take_out(conn) else {
-            unreachable!();
-        };
-        let plan = seat.job_plan(alloc, &self.book)?;
-        let lines = lines_of(alloc, conn, &plan)?;
-        seat.change(alloc, &plan.change)?;
-        seat.done = seat.taken;
-        self.put_back(conn, seat)?;
-        Ok(Said { idle: false, lines })
+    }
+
+    fn fault(&mut self, alloc: Global) -> Said
+        ensures steps { StepsAs (rules_of self.old.book) event.Fault (held self.old) result (held self.new) }
+        ensures book { self.new.book ≡ self.old.book }
+    {
+        self.table.fail_next();
+        silent(alloc)
     }
 
     /// Steps one event.
     pub fn step(&mut self, alloc: Global, event: &Event) -> Result<Said, OutOfMemory>
-        requires { IsPlayed self.old.book event.now }
+        requires plain { NoCasts (callbacks_of self.old.book) }
+        requires stands { FollowsSome (rules_of self.old.book) (held self.old) }
+        requires played { IsPlayed event.now }
         ensures steps { IfOk result (λ s. StepsAs (rules_of self.old.book) event.now (held self.old) s (held self.new)) }
         ensures book { self.new.book ≡ self.old.book }
     {
         match event {
-            Event::Boot { node: _ } => Ok(self.boot(alloc)),
+            Event::Boot { node: _ } => self.boot(alloc),
             Event::Open {
                 node: _,
                 conn,
                 token,
             } => self.open(alloc, *conn, token.as_str()),
             Event::In { conn, text } => self.arrive(alloc, *conn, text.as_str()),
-            Event::Take { conn } => self.take(alloc, *conn),
+            Event::Drop { conn } => self.leave(alloc, *conn),
+            Event::Stop { node: _ } => Ok(self.stop(alloc)),
+            Event::Take { conn } => Ok(self.take(alloc, *conn)),
             Event::Put { conn: _, at: _ } => Ok(idle(alloc)),
             Event::Finish { conn } => self.finish(alloc, *conn),
-            Event::Drop { conn: _ }
-            | Event::Stop { node: _ }
-            | Event::Cast {
-                at: _,
-                channel: _,
-                payload: _,
+            Event::Beat { node: _, now } => self.beat(alloc, *now),
+            Event::Cast {
+                at,
+                channel,
+                payload,
+            } => self.cast(alloc, *at, channel.as_str(), payload.as_str()),
+            Event::Trim {
+                now,
+                retention,
+                batch,
+            } => self.trim(alloc, *now, *retention, *batch),
+            Event::Fault => Ok(self.fault(alloc)),
+            Event::Ask { node: _ } | Event::Read { node: _ } | Event::Deliver { node: _ } => {
+                unreachable!()
             }
-            | Event::Trim {
-                now: _,
-                retention: _,
-                batch: _,
-            }
-            | Event::Ask { node: _ }
-            | Event::Read { node: _ }
-            | Event::Deliver { node: _ }
-            | Event::Beat { node: _, now: _ }
-            | Event::Fault => unreachable!(),
         }
     }
 }

@@ -77,15 +77,14 @@ fn what_is_not_built_is_refused(rt: HostRuntime) -> Result<(), Fail> {
         "boot 1",
         "jump 1\n",
         "\n",
-        "open 1 7 nobody\n",
         "open 1 1000000000 t1\n",
         "in 7\n",
-        "in 7 \n",
-        "in 7 {}\n",
-        "in 7 {\"command\":\"subscribe\",\"identifier\":\"{\\\"channel\\\":\\\"Other\\\"}\"}\n",
         "work 7 0 1001\n",
+        "put 7 0\n",
+        "stop 2\n",
+        "beat 2 0\n",
         "poll 1\n",
-        "fault\n",
+        "ask 1\n",
     ] {
         let text = script(alloc, &[lines])?;
         let (status, silent) = replays(alloc, text.as_str(), 100, 0, 0, "")?;
@@ -97,6 +96,9 @@ fn what_is_not_built_is_refused(rt: HostRuntime) -> Result<(), Fail> {
         "cable-script 1\n",
         "cable-script 2\n",
         "cable-script 1\nbook {}\n",
+        "cable-script 1\nbook {\"channels\":[{\"name\":\"A\",\"streams\":[\"a\"]}]}\n",
+        "cable-script 1\nbook {\"channels\":[{\"name\":\"A\",\"leave\":[{\"to\":\"a\",\"payload\":\"1\"}]}]}\n",
+        "cable-script 1\nbook {\"channels\":[{\"name\":\"A\",\"actions\":[{\"name\":\"b\",\"stops\":[\"a\"]}]}]}\n",
     ] {
         let (status, silent) = replays(alloc, text, 100, 0, 0, "")?;
         assert_eq!(rt; status, NOT_BUILT, "{text}");
@@ -118,16 +120,127 @@ fn faults_are_told(rt: HostRuntime) -> Result<(), Fail> {
     Ok(())
 }
 
-#[test]
-fn words_are_refused(rt: HostRuntime) -> Result<(), Fail> {
-    let alloc = rt.alloc();
-    let mut words = Vec::new(alloc);
-    words.push(String::from_str(alloc, "--fast")?)?;
-    let mut source = MemSource::new(Vec::new(alloc), 1, Vec::new(alloc));
+/// The status of a replay with these words, and whether this is what it wrote.
+fn replays_with(
+    alloc: Global,
+    words: &[&str],
+    text: &str,
+    wanted: &str,
+) -> Result<(Status, bool), AllocError> {
+    let mut strings = Vec::new(alloc);
+    for word in words {
+        strings.push(String::from_str(alloc, word)?)?;
+    }
+    let mut source = MemSource::new(text.as_bytes().to_vec(alloc)?, 64, Vec::new(alloc));
     let mut sink = MemSink::new(alloc, Vec::new(alloc));
-    assert_eq!(rt;
-        replay(alloc, &words, &mut source, &mut sink),
-        Status::Usage
-    );
+    let status = replay(alloc, &strings, &mut source, &mut sink);
+    Ok((status, sink.bytes() == wanted.as_bytes()))
+}
+
+#[test]
+fn other_words_are_refused(rt: HostRuntime) -> Result<(), Fail> {
+    let alloc = rt.alloc();
+    let text = script(alloc, &["boot 1\n"])?;
+    for words in [
+        ["--fast"].as_slice(),
+        [""].as_slice(),
+        ["--totals", "--totals"].as_slice(),
+    ] {
+        let (status, silent) = replays_with(alloc, words, text.as_str(), "")?;
+        assert_eq!(rt; status, Status::Usage);
+        assert!(rt; silent);
+    }
+    Ok(())
+}
+
+#[test]
+fn totals_stand_behind_the_end_line(rt: HostRuntime) -> Result<(), Fail> {
+    let alloc = rt.alloc();
+    let text = script(
+        alloc,
+        &["boot 1\n", "open 1 7 t1\n", SUBSCRIBE, "work 7 0 0\n"],
+    )?;
+    let wanted =
+        "7 {\"type\":\"welcome\"}\n7 {\"identifier\":\"{\\\"channel\\\":\\\"Plain\\\"}\",\"type\":\"confirm_subscription\"}\nend events=5 idle=0\ntotals rows=0 trimmed=0 texts=2 notes=0\n";
+    let (status, same) = replays_with(alloc, &["--totals"], text.as_str(), wanted)?;
+    assert_eq!(rt; status, Status::Ok);
+    assert!(rt; same);
+    Ok(())
+}
+
+#[test]
+fn casts_and_trims_are_said(rt: HostRuntime) -> Result<(), Fail> {
+    let alloc = rt.alloc();
+    let text = script(
+        alloc,
+        &[
+            "boot 1\n",
+            "cast 0 room {\"a\": 1}\n",
+            "cast 5 room 2\n",
+            "cast 9 hall 3\n",
+            "trim 100 50 1\n",
+            "trim 100 50 10\n",
+            "trim 100 50 10\n",
+        ],
+    )?;
+    let wanted =
+        "- row 1\n- row 2\n- row 3\n- trimmed 1\n- trimmed 1\n- trimmed 0\nend events=7 idle=0\ntotals rows=3 trimmed=2 texts=0 notes=0\n";
+    let (status, same) = replays_with(alloc, &["--totals"], text.as_str(), wanted)?;
+    assert_eq!(rt; status, Status::Ok);
+    assert!(rt; same);
+    Ok(())
+}
+
+#[test]
+fn a_fault_refuses_one_call_of_the_table(rt: HostRuntime) -> Result<(), Fail> {
+    let alloc = rt.alloc();
+    let text = script(
+        alloc,
+        &[
+            "fault\n",
+            "boot 1\n",
+            "cast 0 room 1\n",
+            "cast 0 room 1\n",
+            "cast 9 room 2\n",
+            "fault\n",
+            "fault\n",
+            "trim 100 50 10\n",
+            "trim 100 50 10\n",
+            "cast 9 room 3\n",
+        ],
+    )?;
+    let wanted =
+        "- ! store-refused\n- row 1\n- row 2\n- ! store-refused\n- trimmed 1\n- row 3\nend events=10 idle=0\ntotals rows=3 trimmed=1 texts=0 notes=2\n";
+    let (status, same) = replays_with(alloc, &["--totals"], text.as_str(), wanted)?;
+    assert_eq!(rt; status, Status::Ok);
+    assert!(rt; same);
+    Ok(())
+}
+
+#[test]
+fn sessions_step_each_event(rt: HostRuntime) -> Result<(), Fail> {
+    let alloc = rt.alloc();
+    let text = script(
+        alloc,
+        &[
+            "boot 1\n",
+            "open 1 7 t1\n",
+            "open 1 8 nobody\n",
+            "in 7 {}\n",
+            "beat 1 5999\n",
+            "take 7\n",
+            "finish 7\n",
+            "stop 1\n",
+            "drop 7\n",
+            "take 7\n",
+            "finish 7\n",
+            "in 7 {}\n",
+        ],
+    )?;
+    let wanted =
+        "7 {\"type\":\"welcome\"}\n8 {\"type\":\"disconnect\",\"reason\":\"unauthorized\",\"reconnect\":false}\n7 {\"type\":\"ping\",\"message\":5}\n7 ! unknown-command\n7 {\"type\":\"disconnect\",\"reason\":\"server_restart\",\"reconnect\":true}\nend events=12 idle=2\n";
+    let (status, same) = replays_with(alloc, &[], text.as_str(), wanted)?;
+    assert_eq!(rt; status, Status::Ok);
+    assert!(rt; same);
     Ok(())
 }

@@ -2,11 +2,9 @@
 #![tactic(auto)]
 
 mod holding;
-mod ledgers;
 mod mapping;
 
 pub use holding::Hold;
-pub use ledgers::Steps;
 pub use mapping::SubscriberMap;
 
 #[cfg(test)]

@@ -10,8 +10,7 @@ ghost use Rattle.subscriber_map.specs.HoldMaps.{holds_at, with_hold_at, without_
 ghost use Rattle.subscriber_map.specs.Entries.{names_of};
 
 use crate::holding::{Hold, Holds};
-use crate::ledgers::Steps;
-use cable_base::{ConnNo, Listed, Name, OutOfMemory, WantNo};
+use cable_base::{ConnNo, Listed, Name, OutOfMemory, Steps, WantNo};
 use std::alloc::Global;
 use std::marker::Model;
 use std::sync::ledger::Ledger;

@@ -1,7 +1,7 @@
 ghost use Rattle.std.specs.Prelude.{◌≡◌, ◌<◌};
 
-use crate::{Hold, Steps, SubscriberMap};
-use cable_base::{ConnNo, RowId, SubNo, WantNo};
+use crate::{Hold, SubscriberMap};
+use cable_base::{ConnNo, RowId, Steps, SubNo, WantNo};
 use std::alloc::Global;
 use std::marker::Brand;
 use std::process::Abort;

@@ -5,19 +5,27 @@ use Rattle.channel_book.specs.Shapes.{Declared}
 use Rattle.cable_model.specs.declared.events.Event.{Event}
 use Rattle.cable_model.specs.declared.verbs.Verb.{Verb}
 use Rattle.cable_model.specs.History.{start, run, World}
-use Rattle.cable_model.specs.Script.{rules_of, expand, expand_all}
+use Rattle.cable_model.specs.Script.{callbacks_of, rules_of, expand, expand_all}
 use Rattle.std.specs.Io.KnownBytes.{Appends}
-use Rattle.cable_model.specs.Transcript.{said_all, idle_count, lines_text, ended, end_line}
+use Rattle.cable_model.specs.declared.lines.Totals.{Totals}
+use Rattle.cable_model.specs.Transcript.{said_all, idle_count, lines_text, no_totals, totals_of}
+use Rattle.replay_cli.specs.Modes.{tail_of}
 use Rattle.replay_cli.specs.Reading.{Read}
-use Rattle.replay_cli.specs.Sessions.{held, FollowsWorld}
+use Rattle.replay_cli.specs.Sessions.{held, FollowsWorld, FollowsSome, NoCasts}
 use Rattle.replay_cli.specs.Replay.{Works}
-use Rattle.replay_cli.proofs.PerformedLines.{expand_all-more, took_more, performs_refused, performs_end, verbs_parts}
-use Rattle.replay_cli.proofs.RunsOn.{run-append, idle_count-append}
+use Rattle.replay_cli.proofs.PerformedLines.{expand_all-more, took_more, performs_unbegun, performs_refused, performs_unended, performs_end, tail_for, verbs_parts}
+use Rattle.replay_cli.proofs.RunsOn.{run-append, idle_count-append, totals-append}
 use Rattle.replay_cli.proofs.performing.perform.Goals as goal
+
+pub returns-in_err-session : goal.returns-in_err-session
+returns-in_err-session g c =
+    let p = err_from_is_err_and c.from_residual.result c.from_residual.ensures.1 in
+    let s : Read = record { book = c.args.script.book; verbs = c.args.script.verbs.items } in
+    rw (p.1, p.2) (performs_unbegun c.args.mode s (g.K.Sink.taken c.args.sink.now) (g.K.Sink.faults c.args.sink.now))
 
 pub returns-in_err-work_line : goal.returns-in_err-work_line
 returns-in_err-work_line g c =
-    let p = err_from_is_err_and c.from_residual.result c.from_residual.ensures.1 in
+    let p = err_from_is_err_and c.from_residual-in_err-work_line.result c.from_residual-in_err-work_line.ensures.1 in
     let i = c.loop-verb.invariant in
     let vs = c.as_slice-verb-items.result.now in
     let us = take c.loop-verb.verb-index vs in
@@ -27,11 +35,21 @@ returns-in_err-work_line g c =
     (λ (b : Declared). Works (rules_of b) w c.verb-item.result (held c.work_line.new.session)
     (record { taken = g.K.Sink.taken c.loop-verb.sink; taken_behind = g.K.Sink.taken c.work_line.new.sink; faults = g.K.Sink.faults c.loop-verb.sink; faults_behind = g.K.Sink.faults c.work_line.new.sink })
     c.loop-verb.tally c.work_line.new.tally (Err c.in_err-work_line.field-0.0))
-    i.book (c.in_err-work_line.ensures.works w i.follows) in
+    i.book (c.in_err-work_line.ensures.works w (subst (λ (b : Declared). FollowsWorld (rules_of b) (held c.loop-verb.session) w) (sym i.book) i.follows)) in
     let parts = sym c.as_slice-verb-items.ensures.value ∙ verbs_parts vs c.loop-verb.verb-index c.verb-item.result c.loop-verb-test.true c.verb-item.is in
     rw (p.1, p.2)
-    (performs_refused s us (drop (c.loop-verb.verb-index + 1) vs) c.verb-item.result (held c.work_line.new.session) c.in_err-work_line.field-0.0 _ (g.K.Sink.taken c.loop-verb.sink) _ _ (g.K.Sink.faults c.loop-verb.sink) _
+    (performs_refused c.args.mode s us (drop (c.loop-verb.verb-index + 1) vs) c.verb-item.result (held c.work_line.new.session) c.in_err-work_line.field-0.0 _ (g.K.Sink.taken c.loop-verb.sink) _ _ (g.K.Sink.faults c.loop-verb.sink) _
     c.loop-verb.tally c.work_line.new.tally parts i.took i.faults works)
+
+pub returns-in_err-end : goal.returns-in_err-end
+returns-in_err-end g c =
+    let i = c.loop-verb.invariant in
+    let p = err_from_is_err_and c.from_residual-in_err-end.result c.from_residual-in_err-end.ensures.1 in
+    let vs = c.as_slice-verb-items.result.now in
+    let s : Read = record { book = c.args.script.book; verbs = c.args.script.verbs.items } in
+    let all : expand_all (take c.loop-verb.verb-index vs) ≡ expand_all s.verbs = ap expand_all (take_all c.loop-verb.verb-index vs (omega arith) ∙ c.as_slice-verb-items.ensures.value) in
+    let took = subst (λ (es : List Event). Appends (g.K.Sink.taken c.args.sink.now) (g.K.Sink.taken c.loop-verb.sink) (lines_text (said_all (rules_of c.args.script.book) start es))) all i.took in
+    rw (p.1, p.2) (performs_unended c.args.mode s (g.K.Sink.taken c.args.sink.now) (g.K.Sink.taken c.loop-verb.sink) (g.K.Sink.faults c.args.sink.now) (g.K.Sink.faults c.loop-verb.sink) took)
 
 pub loop-verb-preserved : goal.loop-verb-preserved
 loop-verb-preserved g c =
@@ -48,13 +66,15 @@ loop-verb-preserved g c =
     (λ (b : Declared). Works (rules_of b) w v (held c.work_line.new.session)
     (record { taken = g.K.Sink.taken c.loop-verb.sink; taken_behind = g.K.Sink.taken c.work_line.new.sink; faults = g.K.Sink.faults c.loop-verb.sink; faults_behind = g.K.Sink.faults c.work_line.new.sink })
     c.loop-verb.tally c.work_line.new.tally (Ok c.in_ok-work_line.field-0))
-    i.book (c.in_ok-work_line.ensures.works w i.follows) in
+    i.book (c.in_ok-work_line.ensures.works w (subst (λ (b : Declared). FollowsWorld (rules_of b) (held c.loop-verb.session) w) (sym i.book) i.follows)) in
     record {
       took = took_more r (expand_all us) (expand v) _ _ (g.K.Sink.taken c.loop-verb.sink) _ events i.took works.0;
-      follows = subst (λ (x : List Event). FollowsWorld (held c.work_line.new.session) (run r start x)) (sym events)
-          (subst (λ (x : World). FollowsWorld (held c.work_line.new.session) x) (sym (run-append r start (expand_all us) (expand v))) works.1);
+      follows = subst (λ (x : List Event). FollowsWorld r (held c.work_line.new.session) (run r start x)) (sym events)
+          (subst (λ (x : World). FollowsWorld r (held c.work_line.new.session) x) (sym (run-append r start (expand_all us) (expand v))) works.1);
       events = omega (arith, works.2, i.events, ap length events, length-append (expand_all us) (expand v));
       idle = omega (arith, works.3, i.idle, ap (idle_count r start) events, idle_count-append r start (expand_all us) (expand v));
+      totals = totals-append r start (expand_all us) (expand v) no_totals c.loop-verb.tally.totals c.work_line.new.tally.totals i.totals works.4
+          ∙ ap (λ (es : List Event). totals_of (said_all r start es)) (sym events);
       few = omega (arith, c.in_ok-work_line.ensures.events, i.few);
       below = c.in_ok-work_line.ensures.idle;
       book = c.work_line.ensures.book ∙ i.book;
@@ -68,9 +88,20 @@ returns g c =
     let s : Read = record { book = c.args.script.book; verbs = c.args.script.verbs.items } in
     let r = rules_of c.args.script.book in
     let all : expand_all (take c.loop-verb.verb-index vs) ≡ expand_all s.verbs = ap expand_all (take_all c.loop-verb.verb-index vs (omega arith) ∙ c.as_slice-verb-items.ensures.value) in
-    let tail : c.as_bytes.result.now ≡ ended (end_line (length (expand_all s.verbs)) (idle_count r start (expand_all s.verbs))) =
+    let tail : c.as_bytes.result.now ≡ tail_for c.args.mode s =
     c.as_bytes.ensures.value ∙ c.as_str.ensures.value ∙ c.in_ok-end.ensures
-    ∙ ap (λ (n : ℕ). ended (end_line n c.loop-verb.tally.idle)) (i.events ∙ ap length all)
-    ∙ ap (λ (n : ℕ). ended (end_line (length (expand_all s.verbs)) n)) (i.idle ∙ ap (idle_count r start) all) in
+    ∙ ap (λ (n : ℕ). tail_of c.args.mode n c.loop-verb.tally.idle c.loop-verb.tally.totals) (i.events ∙ ap length all)
+    ∙ ap (λ (n : ℕ). tail_of c.args.mode (length (expand_all s.verbs)) n c.loop-verb.tally.totals) (i.idle ∙ ap (idle_count r start) all)
+    ∙ ap (λ (t : Totals). tail_of c.args.mode (length (expand_all s.verbs)) (idle_count r start (expand_all s.verbs)) t) (i.totals ∙ ap (λ (es : List Event). totals_of (said_all r start es)) all) in
     let took = subst (λ (es : List Event). Appends (g.K.Sink.taken c.args.sink.now) (g.K.Sink.taken c.loop-verb.sink) (lines_text (said_all r start es))) all i.took in
-    performs_end s c.as_bytes.result.now c.write_all.result _ (g.K.Sink.taken c.loop-verb.sink) _ _ (g.K.Sink.faults c.loop-verb.sink) _ tail took i.faults c.write_all.ensures.wrote
+    performs_end c.args.mode s c.as_bytes.result.now c.write_all.result _ (g.K.Sink.taken c.loop-verb.sink) _ _ (g.K.Sink.faults c.loop-verb.sink) _ tail took i.faults c.write_all.ensures.wrote
+
+pub work_line-requires-clause-plain : goal.work_line-requires-clause-plain
+work_line-requires-clause-plain g c = subst (λ (b : Declared). NoCasts (callbacks_of b)) (sym c.loop-verb.invariant.book) c.requires.plain
+
+pub work_line-requires-clause-stands : goal.work_line-requires-clause-stands
+work_line-requires-clause-stands g c =
+    let i = c.loop-verb.invariant in
+    let r = rules_of c.args.script.book in
+    let w = run r start (expand_all (take c.loop-verb.verb-index c.as_slice-verb-items.result.now)) in
+    subst (λ (b : Declared). FollowsSome (rules_of b) (held c.loop-verb.session)) (sym i.book) (w, i.follows)

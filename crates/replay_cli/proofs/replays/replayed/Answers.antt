@@ -1,30 +1,37 @@
 use Rattle.std.proofs.Common.{◌≡◌, Some, List, ℕ, sym, subst, ◌∙◌, inr}
-use Rattle.std.proofs.lemmas.Bool.{eqb-true}
 use Rattle.replay_cli.specs.Reading.{Read, script_of}
+use Rattle.replay_cli.proofs.BuiltPlayed.{all_played}
+use Rattle.replay_cli.proofs.QuietBooks.{no_answer_casts}
 use Rattle.replay_cli.proofs.ScriptsRead.{script_read}
 use Rattle.replay_cli.proofs.replays.replayed.Goals as goal
 
-pub perform-requires-clause-built : goal.perform-requires-clause-built
-perform-requires-clause-built g c =
+pub perform-requires-clause-played : goal.perform-requires-clause-played
+perform-requires-clause-played g c =
     let s : Read = record { book = c.in-Ok-read_script.script.book; verbs = c.in-Ok-read_script.script.verbs.items } in
-    (script_read c.deref.result.now s c.in-Ok-read_script.ensures.read).1.each
+    let read = script_read c.deref.result.now s c.in-Ok-read_script.ensures.read in
+    all_played c.squeezing_keeps_the_value.ensures.squeezed s.verbs read.0.lines read.0.spelled read.1.each
+
+pub perform-requires-clause-plain : goal.perform-requires-clause-plain
+perform-requires-clause-plain g c =
+    let s : Read = record { book = c.in-Ok-read_script.script.book; verbs = c.in-Ok-read_script.script.verbs.items } in
+    no_answer_casts s.book (script_read c.deref.result.now s c.in-Ok-read_script.ensures.read).1.quiet
 
 pub returns-in-Ok-perform-clause-outcome : goal.returns-in-Ok-perform-clause-outcome
 returns-in-Ok-perform-clause-outcome g c =
     let s : Read = record { book = c.in-Ok-read_script.script.book; verbs = c.in-Ok-read_script.script.verbs.items } in
     let read = subst (λ (b : List ℕ). script_of b ≡ Some s) c.deref.ensures.value c.in-Ok-read_script.ensures.read in
-    (c.read_all.new.text.items, s, (c.in-Ok.ensures, read, c.in-Ok-perform.ensures, eqb-true _ 0 (sym c.is_empty.ensures ∙ c.if-not-is_empty.false)))
+    (c.in-Some.mode, c.read_all.new.text.items, s, (c.in-Ok.ensures, read, c.in-Ok-perform.ensures, sym c.mode_of.ensures ∙ c.in-Some.is))
 
 pub returns-in-Err-Failed-perform-clause-outcome : goal.returns-in-Err-Failed-perform-clause-outcome
 returns-in-Err-Failed-perform-clause-outcome g c =
     let s : Read = record { book = c.in-Ok-read_script.script.book; verbs = c.in-Ok-read_script.script.verbs.items } in
     let read = subst (λ (b : List ℕ). script_of b ≡ Some s) c.deref.ensures.value c.in-Ok-read_script.ensures.read in
     let q = rw c.in-Err-Failed-perform.field-0-is at c.in-Err-Failed-perform.ensures in
-    (c.read_all.new.text.items, s, q.0, (c.in-Ok.ensures, read, q.1.0, q.1.1, q.1.2, eqb-true _ 0 (sym c.is_empty.ensures ∙ c.if-not-is_empty.false)))
+    (c.in-Some.mode, c.read_all.new.text.items, s, q.0, (c.in-Ok.ensures, read, q.1.0, q.1.1, q.1.2, sym c.mode_of.ensures ∙ c.in-Some.is))
 
 pub returns-clause-outcome : goal.returns-clause-outcome
 returns-clause-outcome g c =
     let s : Read = record { book = c.in-Ok-read_script.script.book; verbs = c.in-Ok-read_script.script.verbs.items } in
     let read = subst (λ (b : List ℕ). script_of b ≡ Some s) c.deref.ensures.value c.in-Ok-read_script.ensures.read in
     let q = rw c.in-Err-OutOfMemory-perform.field-0-is at c.in-Err-OutOfMemory-perform.ensures in
-    (c.read_all.new.text.items, q.0, (c.in-Ok.ensures.gave, q.1.0, inr (s, (read, q.1.1)), eqb-true _ 0 (sym c.is_empty.ensures ∙ c.if-not-is_empty.false)))
+    (c.in-Some.mode, c.read_all.new.text.items, q.0, (c.in-Ok.ensures.gave, q.1.0, inr (s, (read, q.1.1)), sym c.mode_of.ensures ∙ c.in-Some.is))

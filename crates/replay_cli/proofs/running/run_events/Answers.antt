@@ -2,9 +2,10 @@ use Rattle.std.proofs.Common.{◌≡◌, List, [], ◌∷◌, ◌++◌, take, sy
 use Rattle.std.proofs.lemmas.List.{take_more}
 use Rattle.channel_book.specs.Shapes.{Declared}
 use Rattle.cable_model.specs.declared.events.Event.{Event}
-use Rattle.cable_model.specs.Script.{rules_of}
+use Rattle.cable_model.specs.History.{run}
+use Rattle.cable_model.specs.Script.{callbacks_of, rules_of}
 use Rattle.replay_cli.specs.Running.{RunsAs}
-use Rattle.replay_cli.specs.Sessions.{held}
+use Rattle.replay_cli.specs.Sessions.{held, FollowsSome, NoCasts}
 use Rattle.replay_cli.proofs.RunsOn.{runs_on}
 use Rattle.replay_cli.proofs.running.run_events.Goals as goal
 
@@ -21,3 +22,13 @@ loop-event-preserved c =
       idle = c.in_ok-run_event.ensures.idle;
       book = c.run_event.ensures.book ∙ i.book;
     }
+
+pub run_event-requires-clause-plain : goal.run_event-requires-clause-plain
+run_event-requires-clause-plain c = subst (λ (b : Declared). NoCasts (callbacks_of b)) (sym c.loop-event.invariant.book) c.requires.plain
+
+pub run_event-requires-clause-stands : goal.run_event-requires-clause-stands
+run_event-requires-clause-stands c =
+    let i = c.loop-event.invariant in
+    let r = rules_of c.args.session.now.book in
+    let w = run r c.requires.stands.0 (take c.loop-event.event-index c.args.events.now) in
+    subst (λ (b : Declared). FollowsSome (rules_of b) (held c.loop-event.session)) (sym i.book) (w, i.runs.follows c.requires.stands.0 c.requires.stands.1)

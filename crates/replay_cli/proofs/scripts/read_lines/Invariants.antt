@@ -6,7 +6,7 @@ use Rattle.replay_cli.proofs.scripts.read_lines.Given as goal
 abbrev pub invariant-loop-line : goal.invariant-loop-line
 invariant-loop-line l =
     record {
-      read : Read l.book l.verbs.items l.rest l.fn.text;
+      read : Read l.verbs.items l.rest l.fn.text;
       few : length l.verbs.items + length l.rest ≤ length l.fn.text;
     }
 

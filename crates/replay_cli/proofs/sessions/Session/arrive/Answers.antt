@@ -1,31 +1,35 @@
-use Rattle.std.proofs.Common.{◌≡◌, true, false, List, ℕ, Some, sym, ap, ◌∙◌}
-use Rattle.std.proofs.lemmas.Bool.{lt-ltb, le-ltb}
+use Rattle.std.proofs.Common.{◌≡◌, ◌∙◌, true, false, refl, sym, subst}
 use Rattle.cable_model.specs.Script.{rules_of}
+use Rattle.replay_cli.specs.Sessions.{held}
+use Rattle.std.proofs.lemmas.Bool.{lt-ltb, le-ltb}
+use Rattle.std.proofs.lemmas.Result.{IfOk-weaker}
 use Rattle.cable_model.specs.Possible.{is_too_long}
-use Rattle.replay_cli.specs.Sessions.{held, is_full}
-use Rattle.replay_cli.proofs.FollowingWork.{arrive_too_long, arrive_busy, arrive_steps}
-use Rattle.replay_cli.proofs.SeatsChanged.{replaced, some_is, IfOk-weaker}
+use Rattle.cable_model.specs.declared.pieces.Piece.{Piece}
+use Rattle.conn_seat.specs.Seats.{Becomes, with_piece}
+use Rattle.node_seats.specs.Numbers.{Moves, Lives}
+use Rattle.replay_cli.proofs.FollowingWork.{arrive_idle, arrive_too_long, arrive_busy, arrive_steps}
 use Rattle.replay_cli.proofs.sessions.Session.arrive.Goals as goal
+
+pub returns-then-not-is_receiving-clause-steps : goal.returns-then-not-is_receiving-clause-steps
+returns-then-not-is_receiving-clause-steps c =
+    rw c.idle.ensures (arrive_idle (rules_of c.args.self.now.book) (held c.args.self.now) c.args.conn c.args.text.now (sym c.is_receiving.ensures ∙ c.if-not-is_receiving.true))
 
 pub returns-then-text-gt-MOST_TEXT-clause-steps : goal.returns-then-text-gt-MOST_TEXT-clause-steps
 returns-then-text-gt-MOST_TEXT-clause-steps c =
-    let s = some_is ((held c.args.self.now).seats c.args.conn.0) (sym c.contains_key.ensures ∙ c.if-not-contains_key.false) in
+    let some = sym c.is_receiving.ensures ∙ c.if-not-is_receiving.false in
     let long : is_too_long c.args.text.now ≡ true = lt-ltb _ _ c.if-text-gt-MOST_TEXT.true in
-    IfOk-weaker _ _ c.noted.result (λ said is. arrive_too_long (rules_of c.args.self.now.book) (held c.args.self.now) c.args.conn.0 c.args.text.now s.0 said s.1 long is) c.noted.ensures
+    IfOk-weaker c.noted.result _ _ (λ said is. arrive_too_long (rules_of c.args.self.now.book) (held c.args.self.now) c.args.conn c.args.text.now said some long is) c.noted.ensures
 
-pub returns-then-is_full-clause-steps : goal.returns-then-is_full-clause-steps
-returns-then-is_full-clause-steps c =
-    let s = some_is ((held c.args.self.now).seats c.args.conn.0) (sym c.contains_key.ensures ∙ c.if-not-contains_key.false) in
+pub returns-then-is_busy-clause-steps : goal.returns-then-is_busy-clause-steps
+returns-then-is_busy-clause-steps c =
+    let some = sym c.is_receiving.ensures ∙ c.if-not-is_receiving.false in
     let short : is_too_long c.args.text.now ≡ false = le-ltb _ _ c.if-text-gt-MOST_TEXT.false in
-    let full : is_full (Some s.0) ≡ true = sym (ap is_full s.1) ∙ sym c.is_full.ensures ∙ c.if-is_full.true in
-    IfOk-weaker _ _ c.noted-then-is_full.result (λ said is. arrive_busy (rules_of c.args.self.now.book) (held c.args.self.now) c.args.conn.0 c.args.text.now s.0 said s.1 short full is) c.noted-then-is_full.ensures
+    IfOk-weaker c.noted-then-is_busy.result _ _ (λ said is. arrive_busy (rules_of c.args.self.now.book) (held c.args.self.now) c.args.conn c.args.text.now said some short (sym c.is_busy.ensures ∙ c.if-is_busy.true) is) c.noted-then-is_busy.ensures
 
 pub returns-clause-steps : goal.returns-clause-steps
 returns-clause-steps c =
-    let r = replaced c.args.self.now c.take_out.new.self c.put_back.new.self c.args.conn.0 c.in-Some.seat _ c.take_out.result c.in-Some.is c.take_out.ensures.found c.take_out.ensures.gone
-    c.take_out.ensures.count c.take_out.ensures.rest c.in_ok-put_back.ensures.stands c.in_ok-put_back.ensures.count c.put_back.ensures.rest in
+    let some = sym c.is_receiving.ensures ∙ c.if-not-is_receiving.false in
     let short : is_too_long c.args.text.now ≡ false = le-ltb _ _ c.if-text-gt-MOST_TEXT.false in
-    let room : is_full (Some c.in-Some.seat) ≡ false = sym (ap is_full r.at) ∙ sym c.is_full.ensures ∙ c.if-is_full.false in
+    let moved = subst (λ (p : Piece). Moves c.args.conn.0 (Lives (λ s t. Becomes (with_piece p s) t)) c.args.self.now.seats.entries c.put.new.self.entries) c.in_ok-piece.ensures c.in_ok-put.ensures.ok in
     rw c.silent.ensures
-    (arrive_steps (rules_of c.args.self.now.book) (held c.args.self.now) (held c.put_back.new.self) c.args.conn.0 c.args.text.now c.in_ok-identifier.identifier c.in-Some.seat _ r.at short room
-    c.in_ok-identifier.ensures (ap (λ (x : List (List ℕ)). record c.in-Some.seat { subscribes = x }) c.in_ok-push.ensures.ok) r.booted r.changes r.count)
+    (arrive_steps (rules_of c.args.self.now.book) (held c.args.self.now) _ c.args.conn c.args.text.now some short (sym c.is_busy.ensures ∙ c.if-is_busy.false) refl refl moved)

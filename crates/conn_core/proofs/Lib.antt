@@ -1,0 +1,11 @@
+pub mod Known
+pub mod Broadcasts
+pub mod Wanting
+pub mod Mapped
+pub mod OneSub
+pub mod Bared
+pub mod StaysApart
+pub mod WantsStayApart
+pub mod MarkedSteps
+pub mod MarkedTasks
+pub mod PlansApply

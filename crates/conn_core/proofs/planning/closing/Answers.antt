@@ -1,0 +1,11 @@
+use Rattle.conn_core.proofs.Broadcasts.{kept-more, notes-more, faults-more}
+use Rattle.conn_core.proofs.planning.closing.Goals as goal
+
+pub loop-identifier-preserved : goal.loop-identifier-preserved
+loop-identifier-preserved g c =
+    let left = g.C.Callbacks.unsubscribed_of c.args.callbacks.now c.args.user.now in
+    record {
+      kept = kept-more left _ _ c.identifier-item.result _ _ c.loop-identifier-test.true c.identifier-item.is c.loop-identifier.invariant.kept (rw (← c.as_str.ensures) c.in_ok-leave.ensures.kept);
+      notes = notes-more left _ _ c.identifier-item.result _ _ c.loop-identifier-test.true c.identifier-item.is c.loop-identifier.invariant.notes (rw (← c.as_str.ensures) c.in_ok-leave.ensures.notes);
+      faults = faults-more left _ _ c.identifier-item.result _ _ c.loop-identifier-test.true c.identifier-item.is c.loop-identifier.invariant.faults (rw (← c.as_str.ensures) c.in_ok-leave.ensures.faults);
+    }

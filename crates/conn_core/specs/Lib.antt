@@ -1,0 +1,6 @@
+pub mod Payloads
+pub mod Subscriptions
+pub mod Connections
+pub mod Rooms
+pub mod Bare
+pub mod Marked

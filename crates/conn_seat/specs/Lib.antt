@@ -1,0 +1,4 @@
+pub mod Ends
+pub mod Seats
+pub mod Seated
+pub mod Turns

@@ -1,0 +1,18 @@
+//! One connection on its node: its subscriptions, the pieces that wait on it and the one that is out as a job, as the node's journal has
+//! them.
+#![tactic(auto)]
+
+mod laws;
+mod seats;
+mod striking;
+
+pub use laws::{
+    answers_are_the_journals, finishes_are_entries, opened_connections_sit, other_entries_leave_it,
+    pieces_go_on_being_worked, places_are_the_turns, plans_are_the_journals, plans_can_be_finished,
+    puts_are_entries, room_plays_no_part, rows_go_to_held_streams, takes_are_entries,
+    turns_are_entries,
+};
+pub use seats::Seat;
+
+#[cfg(test)]
+mod tests;

@@ -1,0 +1,107 @@
+-- What is found under a number, behind what calls make of the others.
+use Rattle.std.proofs.Common.{◌≡◌, ℕ, ◌==◌, Bool, true, false, cond, ◌||◌, List, [], ◌∷◌, Some, None, refl, sym, ap, ◌∙◌, arith}
+use Rattle.std.specs.Prelude.{ltb}
+use Rattle.std.specs.List.{list_any}
+use Rattle.std.specs.Ordering.{nat_cmp, is_eq, match_ordering}
+use Rattle.std.specs.declared.cmp.Ordering.{Ordering}
+use Rattle.std.specs.declared.cmp.Ordering.TheVariants as order
+use Rattle.std.specs.BTreeMap.{is_at, insert_entry}
+use Rattle.std.specs.Map.{lookup, set_value, keys_of}
+use Rattle.std.proofs.lemmas.Bool.Decides.{nat_tests}
+use Rattle.cable_model.specs.Possible.{inserted}
+use Rattle.node_seats.specs.declared.opened.Opened.{Opened}
+use Rattle.node_seats.specs.Numbers.{Numbers, opened_at, with_opened, with_new}
+
+-- ---- tests of numbers
+
+pub at-is : (c d : ℕ) → is_at (nat_cmp c) d ≡ (d == c)
+at-is c d = grind (arith, nat_tests)
+
+pub at-self : (c : ℕ) → is_at (nat_cmp c) c ≡ true
+at-self c = grind (arith, nat_tests)
+
+at-one : (c d x : ℕ) → (c ≡ d → ⊥) → is_at (nat_cmp c) x ≡ true → is_at (nat_cmp d) x ≡ false
+at-one c d x apart at =
+    let e : (x == c) ≡ true = sym (at-is c x) ∙ at in
+    at-is d x ∙ other (x == d) refl e
+  where
+    other : (b : Bool) → (x == d) ≡ b → (x == c) ≡ true → b ≡ false
+    other true f e = absurd (apart (grind (arith, nat_tests)))
+    other false f e = refl
+
+-- ---- a number that was opened
+
+module _ (mine other : ℕ → Bool) (one : (x : ℕ) → mine x ≡ true → other x ≡ false) where
+  set-elsewhere : (o : Opened) (v : Numbers) → lookup other (set_value mine v o) ≡ lookup other v
+  set-elsewhere o [] = refl
+  set-elsewhere o (e ∷ es) = by-test (mine e.0) refl (set-elsewhere o es)
+    where
+      by-test : (b : Bool) → mine e.0 ≡ b → lookup other (set_value mine es o) ≡ lookup other es → lookup other (cond b ((e.0, o) ∷ es) (e ∷ set_value mine es o)) ≡ lookup other (e ∷ es)
+      by-test true is ih = let f = one e.0 is in rw f refl
+      by-test false is ih = ap (λ l. cond (other e.0) (Some e.1) l) ih
+
+set-there : (mine : ℕ → Bool) (o p : Opened) (v : Numbers) → lookup mine v ≡ Some p → lookup mine (set_value mine v o) ≡ Some o
+set-there mine o p [] at = absurd cc
+set-there mine o p (e ∷ es) at = by-test (mine e.0) refl at (set-there mine o p es)
+  where
+    by-test : (b : Bool) → mine e.0 ≡ b → cond b (Some e.1) (lookup mine es) ≡ Some p → (lookup mine es ≡ Some p → lookup mine (set_value mine es o) ≡ Some o)
+        → lookup mine (cond b ((e.0, o) ∷ es) (e ∷ set_value mine es o)) ≡ Some o
+    by-test true is found ih = rw is refl
+    by-test false is found ih = rw is (ih found)
+
+pub found-elsewhere : (c d : ℕ) (o : Opened) (v : Numbers) → (c ≡ d → ⊥) → opened_at d (with_opened c o v) ≡ opened_at d v
+found-elsewhere c d o v apart = set-elsewhere (is_at (nat_cmp c)) (is_at (nat_cmp d)) (λ x. at-one c d x apart) o v
+
+pub found-there : (c : ℕ) (o p : Opened) (v : Numbers) → opened_at c v ≡ Some p → opened_at c (with_opened c o v) ≡ Some o
+found-there c o p v at = set-there (is_at (nat_cmp c)) o p v at
+
+-- ---- a number more
+
+module _ (c : ℕ) (cmp : ℕ → ℕ → Ordering) (other : ℕ → Bool) where
+  insert-elsewhere : (o : Opened) → other c ≡ false → ((x : ℕ) → is_eq (cmp c x) ≡ true → other x ≡ false) → (v : Numbers) → lookup other (insert_entry cmp v c o) ≡ lookup other v
+  insert-elsewhere o not_c one [] = rw not_c refl
+  insert-elsewhere o not_c one (e ∷ es) = by-order (cmp c e.0) refl (insert-elsewhere o not_c one es)
+    where
+      by-order : (r : Ordering) → cmp c e.0 ≡ r → lookup other (insert_entry cmp es c o) ≡ lookup other es
+          → lookup other (match_ordering r ((c, o) ∷ e ∷ es) ((e.0, o) ∷ es) (e ∷ insert_entry cmp es c o)) ≡ lookup other (e ∷ es)
+      by-order order.Less is ih = rw not_c refl
+      by-order order.Equal is ih = let f = one e.0 (ap is_eq is) in rw f refl
+      by-order order.Greater is ih = ap (λ l. cond (other e.0) (Some e.1) l) ih
+
+  insert-there : (o : Opened) → other c ≡ true → ((x : ℕ) → other x ≡ is_eq (cmp c x)) → (v : Numbers) → lookup other (insert_entry cmp v c o) ≡ Some o
+  insert-there o is_c same [] = rw is_c refl
+  insert-there o is_c same (e ∷ es) = by-order (cmp c e.0) refl (insert-there o is_c same es)
+    where
+      by-order : (r : Ordering) → cmp c e.0 ≡ r → lookup other (insert_entry cmp es c o) ≡ Some o
+          → lookup other (match_ordering r ((c, o) ∷ e ∷ es) ((e.0, o) ∷ es) (e ∷ insert_entry cmp es c o)) ≡ Some o
+      by-order order.Less is ih = rw is_c refl
+      by-order order.Equal is ih = let f : other e.0 ≡ true = same e.0 ∙ ap is_eq is in rw f refl
+      by-order order.Greater is ih = let f : other e.0 ≡ false = same e.0 ∙ ap is_eq is in rw f ih
+
+pub new-there : (c : ℕ) (o : Opened) (v : Numbers) → opened_at c (with_new c o v) ≡ Some o
+new-there c o v = insert-there c nat_cmp (is_at (nat_cmp c)) o (at-self c) (λ x. refl) v
+
+pub new-elsewhere : (c d : ℕ) (o : Opened) (v : Numbers) → (c ≡ d → ⊥) → opened_at d (with_new c o v) ≡ opened_at d v
+new-elsewhere c d o v apart = insert-elsewhere c nat_cmp (is_at (nat_cmp d)) o (at-one c d c apart (at-self c)) (λ x. at-one c d x apart) v
+
+below-is : (c d : ℕ) → nat_cmp c d ≡ order.Less → ltb d c ≡ false
+below-is c d e = grind (arith, nat_tests, e)
+
+above-is : (c d : ℕ) → nat_cmp c d ≡ order.Greater → ltb d c ≡ true
+above-is c d e = grind (arith, nat_tests, e)
+
+pub new-keys : (c : ℕ) (o : Opened) (v : Numbers) → opened_at c v ≡ None → keys_of (with_new c o v) ≡ inserted c (keys_of v)
+new-keys c o [] none = refl
+new-keys c o (e ∷ es) none = by-order (nat_cmp c e.0) refl none (new-keys c o es)
+  where
+    by-order : (r : Ordering) → nat_cmp c e.0 ≡ r → cond (is_eq r) (Some e.1) (opened_at c es) ≡ None → (opened_at c es ≡ None → keys_of (with_new c o es) ≡ inserted c (keys_of es))
+        → keys_of (match_ordering r ((c, o) ∷ e ∷ es) ((e.0, o) ∷ es) (e ∷ insert_entry nat_cmp es c o)) ≡ cond (ltb e.0 c) (e.0 ∷ inserted c (keys_of es)) (c ∷ e.0 ∷ keys_of es)
+    by-order order.Less is none ih = let f = below-is c e.0 is in rw f refl
+    by-order order.Equal is none ih = absurd cc
+    by-order order.Greater is none ih = let f = above-is c e.0 is in rw f (ap (λ ks. e.0 ∷ ks) (ih none))
+
+-- ---- whether it was opened
+
+pub any-same : (f g : ℕ → Bool) → ((x : ℕ) → f x ≡ g x) → (xs : List ℕ) → list_any f xs ≡ list_any g xs
+any-same f g same [] = refl
+any-same f g same (x ∷ xs) = ap (λ b. b || list_any f xs) (same x) ∙ ap (λ b. g x || b) (any-same f g same xs)

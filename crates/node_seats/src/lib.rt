@@ -1,0 +1,16 @@
+//! The connections of a node, by their numbers.
+#![tactic(auto)]
+
+mod laws;
+mod opened;
+mod seats;
+
+pub use laws::{
+    finishes_of_numbers_are_entries, numbers_are_the_journals, opens_are_entries,
+    other_entries_leave_the_numbers, puts_on_numbers_are_entries, takes_of_numbers_are_entries,
+};
+pub use opened::Opened;
+pub use seats::Seats;
+
+#[cfg(test)]
+mod tests;

@@ -1,0 +1,14 @@
+//! A listener's turns. A node asks the table for the rows above the last id that it looked at, whose names it holds, and moves on to
+//! where the read ended. One turn is out at a time, and each is spent: it can't be forgotten on the way.
+#![tactic(auto)]
+
+mod cursors;
+mod hashing;
+mod turns;
+
+pub use cursors::Cursor;
+pub use hashing::channel_hash;
+pub use turns::{Caught, Turn};
+
+#[cfg(test)]
+mod tests;

@@ -1,0 +1,192 @@
+-- A session's table begins as the model's does, and its casts, trims and faults are the model's.
+use Rattle.std.proofs.Common.{◌≡◌, ℕ, suc, ◌+◌, ◌==◌, ◌||◌, Bool, true, false, cond, List, [], ◌∷◌, ◌++◌, length, Option, Some, None, Result, Ok, Err, refl, sym, ap, subst, ◌∙◌, add-one}
+use Rattle.std.specs.List.{list_any}
+use Rattle.std.proofs.lemmas.Option.{same_Some}
+use Rattle.cable_base.specs.Memory.{next_count}
+use Rattle.cable_base.specs.declared.numbers.Millis.{Millis}
+use Rattle.cable_base.specs.declared.numbers.RowId.{RowId}
+use Rattle.cable_base.specs.declared.rows.Row.{Row}
+use Rattle.cable_model.specs.declared.events.Event.{Event}
+use Rattle.cable_model.specs.declared.events.Event.TheVariants as event
+use Rattle.cable_model.specs.declared.lines.Line.TheVariants as line
+use Rattle.cable_model.specs.Journal.{offer_in}
+use Rattle.cable_model.specs.Table.{TableStep, last_id, oldest, present, row_with}
+use Rattle.cable_model.specs.History.{Rules, World, start, stored, with_fault, new_id, trim_count, is_possible, happened}
+use Rattle.cable_model.specs.Transcript.{lines_of, commit_lines, trim_lines}
+use Rattle.node_seats.specs.AreSeats.{AreSeats}
+use Rattle.node_seats.proofs.Counting.{none-yet}
+use Rattle.table_core.specs.declared.faults.StoreFault.{StoreFault}
+use Rattle.table_core.specs.declared.faults.StoreFault.TheVariants as store_fault
+use Rattle.table_core.specs.Keepers.{CallsOnce, KeeperFailures, after_keeper_call, is_refused, without}
+use Rattle.table_core.specs.Memory.{MemRows, mem_rows, told_to_fail}
+use Rattle.table_core.specs.Shown.{Shows}
+use Rattle.table_core.specs.Tables.{TableState}
+use Rattle.table_core.proofs.Callers.{commit-shows, trim-shows}
+use Rattle.table_core.proofs.Following.{refusals_follow}
+use Rattle.replay_cli.specs.declared.saying.Said.{Said}
+use Rattle.replay_cli.specs.Sessions.{Held, IsTableOf, FollowsWorld, StepsAs, silent_said, refused_said}
+use Rattle.replay_cli.proofs.Following.{possible_steps, comes}
+
+-- ---- the beginning
+
+-- nothing has happened
+pub begins : (r : Rules) (h : Held) → h.booted ≡ false → h.entries ≡ [] → h.table.keeper.rows ≡ [] → h.table.last.0 ≡ 0 → h.table.keeper.failures ≡ after_keeper_call (mem_rows [] []).failures → FollowsWorld r h start
+begins r h b none no_rows no_last fs = record {
+  events = [];
+  ran = refl;
+  booted = b;
+  seats = subst (AreSeats []) (sym none) none-yet;
+  home = λ c. refl;
+  puts = λ c. refl;
+  turnless = tt;
+  table = record {
+    shows = record { rows_are = no_rows; last_is = no_last };
+    unplanned = ap (λ (f : KeeperFailures). f.planned.planned) fs;
+    failing_is = ap (λ (f : KeeperFailures). f.next) fs;
+  };
+}
+
+-- ---- a call of the keeper
+
+-- it failed exactly where it was to
+pub record Calls (f f' : KeeperFailures) (failed : Bool) : Type 0 where
+  pub fails : is_refused f ≡ failed
+  pub behind : f' ≡ after_keeper_call f
+
+pub went_well : {went failed : Type 0} {a a' n n' : ℕ} (f f' : KeeperFailures) → CallsOnce went failed a a' n n' (Some f) (Some f') → (failed → ⊥) → Calls f f' false
+went_well f f' c well = record { fails = by-test (is_refused f) refl; behind = same_Some f' (after_keeper_call f) c.after }
+  where
+    by-test : (b : Bool) → is_refused f ≡ b → b ≡ false
+    by-test false e = refl
+    by-test true e = absurd (well (c.fails.1 e))
+
+pub was_refused : {went failed : Type 0} {a a' n n' : ℕ} (f f' : KeeperFailures) → CallsOnce went failed a a' n n' (Some f) (Some f') → failed → Calls f f' true
+was_refused f f' c badly = record { fails = c.fails.0 badly; behind = same_Some f' (after_keeper_call f) c.after }
+
+-- an answer isn't a fault, and one fault isn't another
+pub no-fault : {T : Type 0} (x : T) (r : Result T StoreFault) (e : StoreFault) → r ≡ Ok x → r ≡ Err e → ⊥
+no-fault x r e well badly = cc (well, badly)
+
+pub not-spent : {T : Type 0} (r : Result T StoreFault) → r ≡ Err store_fault.Failed → r ≡ Err store_fault.IdsSpent → ⊥
+not-spent r failed spent = cc (failed, spent)
+
+pub not-memory : {T : Type 0} (r : Result T StoreFault) → r ≡ Err store_fault.Failed → r ≡ Err store_fault.OutOfMemory → ⊥
+not-memory r failed memory = cc (failed, memory)
+
+-- where no call was planned to fail, one fails where that was asked for
+asked-for : (f : KeeperFailures) → f.planned.planned ≡ [] → is_refused f ≡ f.next
+asked-for f e = ap (λ (ns : List ℕ). list_any (λ x. x == next_count f.planned.calls) ns || f.next) e
+
+-- ---- a store event
+
+module _ (r : Rules) (h h' : Held) (failed : Bool) (call : Calls h.table.keeper.failures h'.table.keeper.failures failed) where
+  -- the store event fails where the call did
+  failing-is : (w : World) → FollowsWorld r h w → w.failing ≡ failed
+  failing-is w f = sym f.table.failing_is ∙ sym (asked-for h.table.keeper.failures f.table.unplanned) ∙ call.fails
+
+  table-behind : (w : World) (entry : TableStep) → FollowsWorld r h w → Shows h'.table.keeper.rows h'.table.last.0 (entry ∷ w.table) → IsTableOf h'.table (entry ∷ w.table) false
+  table-behind w entry f shows = record {
+    shows = shows;
+    unplanned = ap (λ (x : KeeperFailures). x.planned.planned) call.behind ∙ f.table.unplanned;
+    failing_is = ap (λ (x : KeeperFailures). x.next) call.behind;
+  }
+
+  store-steps : (e : Event) (s : Said) (entry : World → TableStep) → h'.booted ≡ h.booted → h'.entries ≡ h.entries → ((w : World) → is_possible r w e ≡ true) → ((w : World) → happened r w e ≡ stored w (entry w))
+      → s.idle ≡ false → ((w : World) → FollowsWorld r h w → w.failing ≡ failed → s.lines ≡ lines_of r w e)
+      → ((w : World) → FollowsWorld r h w → w.failing ≡ failed → Shows h'.table.keeper.rows h'.table.last.0 (entry w ∷ w.table)) → StepsAs r e h s h'
+  store-steps e s entry b' e' always is busy lines shows =
+      possible_steps r e h h' s (λ w f. always w) busy (λ w f. lines w f (failing-is w f))
+      (λ w f may. comes r h h' w (stored w (entry w)) e f may (is w)
+      (record {
+        booted = b' ∙ f.booted;
+        seats = subst (AreSeats (w.nodes 1)) (sym e') f.seats;
+        home = f.home;
+        puts = f.puts;
+        turnless = f.turnless;
+        table = table-behind w (entry w) f (shows w f (failing-is w f));
+      }))
+
+-- ---- a cast
+
+-- the id of a commit that went well
+new-id : (w : World) (last : ℕ) (id : RowId) → w.failing ≡ false → last ≡ last_id w.table → id.0 ≡ last + 1 → new_id w ≡ Some id.0
+new-id w last id calm last_is next =
+    ap (λ b. cond b None (Some (suc (last_id w.table)))) calm ∙ ap (λ (n : ℕ). Some n) (sym (next ∙ add-one last ∙ ap suc last_is))
+
+no-id : (w : World) → w.failing ≡ true → new_id w ≡ None
+no-id w e = ap (λ b. cond b None (Some (suc (last_id w.table)))) e
+
+pub cast_steps : (r : Rules) (h h' : Held) (at : Millis) (channel payload : List ℕ) (id : RowId) (s : Said) → h'.booted ≡ h.booted → h'.entries ≡ h.entries → id.0 ≡ h.table.last.0 + 1 → h'.table.last ≡ id
+    → Some h'.table.keeper.rows ≡ Some (h.table.keeper.rows ++ row_with id.0 (offer_in channel payload at.0) ∷ []) → Calls h.table.keeper.failures h'.table.keeper.failures false
+    → s ≡ record { idle = false; lines = line.Row id ∷ [] } → StepsAs r (event.Cast at channel payload) h s h'
+cast_steps r h h' at channel payload id s b' e' next last_is rows call is =
+    store-steps r h h' false call (event.Cast at channel payload) s (λ w. TableStep.Commit None (offer_in channel payload at.0) (new_id w)) b' e' (λ w. refl) (λ w. refl)
+    (ap (λ (x : Said). x.idle) is)
+    (λ w f calm. ap (λ (x : Said). x.lines) is ∙ sym (ap (commit_lines None) (new-id w h.table.last.0 id calm f.table.shows.last_is next)))
+    (λ w f calm. subst (λ (o : Option ℕ). Shows h'.table.keeper.rows h'.table.last.0 (TableStep.Commit None (offer_in channel payload at.0) o ∷ w.table)) (sym (new-id w h.table.last.0 id calm f.table.shows.last_is next))
+    (commit-shows {E = Unit {0}} (Ok id) h.table.keeper.rows h'.table.keeper.rows h.table.last h'.table.last None (offer_in channel payload at.0) next last_is rows w.table f.table.shows))
+
+-- rows and a last id that a refused call left
+left-as : (rows rows' : List Row) (last last' : RowId) (past : List TableStep) → rows' ≡ rows → last' ≡ last → Shows rows last.0 past → Shows rows' last'.0 past
+left-as rows rows' last last' past same same_last shows =
+    subst (λ (rs : List Row). Shows rs last'.0 past) (sym same) (subst (λ (i : RowId). Shows rows i.0 past) (sym same_last) shows)
+
+pub cast_refused : (r : Rules) (h h' : Held) (at : Millis) (channel payload : List ℕ) (s : Said) → h'.booted ≡ h.booted → h'.entries ≡ h.entries → h'.table.keeper.rows ≡ h.table.keeper.rows
+    → h'.table.last ≡ h.table.last → Calls h.table.keeper.failures h'.table.keeper.failures true → s ≡ refused_said → StepsAs r (event.Cast at channel payload) h s h'
+cast_refused r h h' at channel payload s b' e' same same_last call is =
+    store-steps r h h' true call (event.Cast at channel payload) s (λ w. TableStep.Commit None (offer_in channel payload at.0) (new_id w)) b' e' (λ w. refl) (λ w. refl)
+    (ap (λ (x : Said). x.idle) is)
+    (λ w f fails. ap (λ (x : Said). x.lines) is ∙ sym (ap (commit_lines None) (no-id w fails)))
+    (λ w f fails. left-as h.table.keeper.rows h'.table.keeper.rows h.table.last h'.table.last _ same same_last
+    (subst (λ (o : Option ℕ). Shows h.table.keeper.rows h.table.last.0 (TableStep.Commit None (offer_in channel payload at.0) o ∷ w.table)) (sym (no-id w fails))
+    ((refusals_follow h.table.keeper.rows h.table.last.0 w.table f.table.shows).commit None (offer_in channel payload at.0)).shows))
+
+-- ---- a trim
+
+-- how many rows a trim takes that goes well
+count-is : (now retention batch count : ℕ) (w : World) (rows : List Row) (last : ℕ) → w.failing ≡ false → Shows rows last w.table → count ≡ length (oldest now retention batch last rows)
+    → trim_count now retention batch w ≡ Some count
+count-is now retention batch count w rows last calm s is =
+    ap (λ b. cond b None (Some (length (oldest now retention batch (last_id w.table) (present w.table))))) calm
+    ∙ ap (λ (n : ℕ). Some n)
+    (sym (is ∙ ap (λ (n : ℕ). length (oldest now retention batch n rows)) s.last_is ∙ ap (λ (rs : List Row). length (oldest now retention batch (last_id w.table) rs)) s.rows_are))
+
+no-count : (now retention batch : ℕ) (w : World) → w.failing ≡ true → trim_count now retention batch w ≡ None
+no-count now retention batch w e = ap (λ b. cond b None (Some (length (oldest now retention batch (last_id w.table) (present w.table))))) e
+
+pub trim_steps : (r : Rules) (h h' : Held) (now retention : Millis) (batch count : ℕ) (s : Said) → h'.booted ≡ h.booted → h'.entries ≡ h.entries
+    → Some h'.table.keeper.rows ≡ Some (without (oldest now.0 retention.0 batch h.table.last.0 h.table.keeper.rows) h.table.keeper.rows)
+    → count ≡ length (oldest now.0 retention.0 batch h.table.last.0 h.table.keeper.rows) → h'.table.last ≡ h.table.last → Calls h.table.keeper.failures h'.table.keeper.failures false
+    → s ≡ record { idle = false; lines = line.Trimmed count ∷ [] } → StepsAs r (event.Trim now retention batch) h s h'
+trim_steps r h h' now retention batch count s b' e' rows counted same_last call is =
+    store-steps r h h' false call (event.Trim now retention batch) s (λ w. TableStep.Trim now.0 retention.0 batch (trim_count now.0 retention.0 batch w)) b' e' (λ w. refl) (λ w. refl)
+    (ap (λ (x : Said). x.idle) is)
+    (λ w f calm. ap (λ (x : Said). x.lines) is ∙ sym (ap trim_lines (count-is now.0 retention.0 batch count w h.table.keeper.rows h.table.last.0 calm f.table.shows counted)))
+    (λ w f calm. subst (λ (o : Option ℕ). Shows h'.table.keeper.rows h'.table.last.0 (TableStep.Trim now.0 retention.0 batch o ∷ w.table))
+    (sym (count-is now.0 retention.0 batch count w h.table.keeper.rows h.table.last.0 calm f.table.shows counted))
+    (trim-shows {E = Unit {0}} (Ok count) h.table.keeper.rows h'.table.keeper.rows h.table.last h'.table.last now.0 retention.0 batch rows counted same_last w.table f.table.shows))
+
+pub trim_refused : (r : Rules) (h h' : Held) (now retention : Millis) (batch : ℕ) (s : Said) → h'.booted ≡ h.booted → h'.entries ≡ h.entries → h'.table.keeper.rows ≡ h.table.keeper.rows
+    → h'.table.last ≡ h.table.last → Calls h.table.keeper.failures h'.table.keeper.failures true → s ≡ refused_said → StepsAs r (event.Trim now retention batch) h s h'
+trim_refused r h h' now retention batch s b' e' same same_last call is =
+    store-steps r h h' true call (event.Trim now retention batch) s (λ w. TableStep.Trim now.0 retention.0 batch (trim_count now.0 retention.0 batch w)) b' e' (λ w. refl) (λ w. refl)
+    (ap (λ (x : Said). x.idle) is)
+    (λ w f fails. ap (λ (x : Said). x.lines) is ∙ sym (ap trim_lines (no-count now.0 retention.0 batch w fails)))
+    (λ w f fails. left-as h.table.keeper.rows h'.table.keeper.rows h.table.last h'.table.last _ same same_last
+    (subst (λ (o : Option ℕ). Shows h.table.keeper.rows h.table.last.0 (TableStep.Trim now.0 retention.0 batch o ∷ w.table)) (sym (no-count now.0 retention.0 batch w fails))
+    ((refusals_follow h.table.keeper.rows h.table.last.0 w.table f.table.shows).trim now.0 retention.0 batch).shows))
+
+-- ---- a fault
+
+pub fault_steps : (r : Rules) (h h' : Held) → h'.booted ≡ h.booted → h'.entries ≡ h.entries → h'.table ≡ record { keeper = told_to_fail h.table.keeper; last = h.table.last } → StepsAs r event.Fault h silent_said h'
+fault_steps r h h' b' e' told =
+    possible_steps r event.Fault h h' silent_said (λ w f. refl) refl (λ w f. refl)
+    (λ w f may. comes r h h' w (with_fault w) event.Fault f may refl
+    (record {
+      booted = b' ∙ f.booted;
+      seats = subst (AreSeats (w.nodes 1)) (sym e') f.seats;
+      home = f.home;
+      puts = f.puts;
+      turnless = f.turnless;
+      table = subst (λ (t : TableState MemRows). IsTableOf t w.table true) (sym told) (record { shows = f.table.shows; unplanned = f.table.unplanned; failing_is = refl });
+    }))

@@ -1,0 +1,9 @@
+pub mod Rows
+pub mod Keeping
+pub mod Paging
+pub mod Following
+pub mod Kept
+pub mod Taking
+pub mod Sorting
+pub mod Null
+pub mod Callers

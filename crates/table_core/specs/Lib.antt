@@ -1,0 +1,5 @@
+pub mod Keepers
+pub mod Memory
+pub mod Inside
+pub mod Tables
+pub mod Shown

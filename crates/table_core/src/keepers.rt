@@ -1,0 +1,99 @@
+ghost use Rattle.std.specs.Prelude.{◌≡◌, ◌++◌, ◌∷◌, ◌≤◌, [], ℕ, List, take, length, Some, IfOk, IfSome, IsErrOf, IsOk, OnErr, OnOk, is_some};
+ghost use Rattle.std.specs.declared.option.Option.{Option};
+ghost use Rattle.cable_base.specs.declared.rows.Row.{Row};
+ghost use Rattle.poll_turn.specs.Turns.{AreMessages};
+ghost use Rattle.table_core.specs.declared.faults.KeeperFault.TheVariants as keeper_fault;
+ghost use Rattle.table_core.specs.Keepers.{AreRising, CallsOnce, IsNewRow, KeeperFailures, first_before, greatest_id, most_id, sought, without};
+
+use crate::faults::KeeperFault;
+use cable_base::{Millis, Row, RowId};
+
+/// Keeps the rows of a table. What is said of rows holds where a keeper tells its rows, as one in memory does. Whether it tells them, and
+/// which of its calls are to fail, is kept by each call. A refused call changes no row.
+pub trait Keeper {
+    /// Its rows, in order, where it tells them.
+    ghost rows: { Self → Option (List Row) };
+
+    /// How many calls failed. It never falls.
+    ghost faults: { Self → ℕ };
+
+    /// How many calls were made. Each call raises it by one, unless it stands at its type's end.
+    ghost calls: { Self → ℕ };
+
+    /// Which calls are to fail, where it tells that.
+    ghost failures: { Self → Option KeeperFailures };
+
+    /// What no call changes: for a reference, which one it is.
+    ghost Place: { Type 0 } = { Unit {0} };
+
+    ghost place: { Self → Self.Place };
+
+    /// The greatest id of the rows, or 0 where there is none. It is at most 2^63 - 1, and the ids rise.
+    fn last_id(&mut self) -> Result<RowId, KeeperFault>
+        ensures last { IfSome (rows self.old) (λ told. IfOk result (λ id. id.0 ≡ greatest_id told)) }
+        ensures rising { IfSome (rows self.old) (λ told. OnOk result (AreRising told)) }
+        ensures most { IfOk result (λ id. id.0 ≤ most_id) }
+        ensures same { rows self.new ≡ rows self.old }
+        ensures call { CallsOnce (IsOk result) (IsErrOf result keeper_fault.Failed) (faults self.old) (faults self.new) (calls self.old) (calls self.new) (failures self.old) (failures self.new) }
+        ensures place { place self.new ≡ place self.old };
+
+    /// Puts a row behind the others. Its id is from 1 to 2^63 - 1 and above each id there, its moment is below 2^53, its payload is squeezed
+    /// JSON, and the hash is that of its name.
+    fn insert(&mut self, row: &Row, hash: i64) -> Result<(), KeeperFault>
+        requires { IsNewRow (rows self.old) row.now hash }
+        ensures ok { IfSome (rows self.old) (λ told. OnOk result (rows self.new ≡ Some (told ++ row.now ∷ []))) }
+        ensures tells { is_some (rows self.new) ≡ is_some (rows self.old) }
+        ensures err { OnErr result (rows self.new ≡ rows self.old) }
+        ensures call { CallsOnce (IsOk result) (IsErrOf result keeper_fault.Failed) (faults self.old) (faults self.new) (calls self.old) (calls self.new) (failures self.old) (failures self.new) }
+        ensures place { place self.new ≡ place self.old };
+
+    /// The first rows, at most `limit`, with an id above `lower` and a name with one of the hashes. Their payloads are squeezed JSON.
+    fn fetch(&mut self, lower: RowId, hashes: &[i64], limit: u64) -> Result<Vec<Row>, KeeperFault>
+        ensures ok { IfSome (rows self.old) (λ told. IfOk result (λ found. found.items ≡ take limit (sought lower.0 hashes.now told))) }
+        ensures messages { IfOk result (λ found. AreMessages found.items) }
+        ensures same { rows self.new ≡ rows self.old }
+        ensures call { CallsOnce (IsOk result) (IsErrOf result keeper_fault.Failed) (faults self.old) (faults self.new) (calls self.old) (calls self.new) (failures self.old) (failures self.new) }
+        ensures place { place self.new ≡ place self.old };
+
+    /// Takes the first rows, at most `limit`, from before a moment and with an id below `below`, and answers how many these are.
+    fn trim(&mut self, before: Millis, below: RowId, limit: u64) -> Result<u64, KeeperFault>
+        ensures ok { IfSome (rows self.old) (λ told. OnOk result (rows self.new ≡ Some (without (first_before before.0 below.0 limit told) told))) }
+        ensures count { IfSome (rows self.old) (λ told. IfOk result (λ count. count ≡ length (first_before before.0 below.0 limit told))) }
+        ensures tells { is_some (rows self.new) ≡ is_some (rows self.old) }
+        ensures err { OnErr result (rows self.new ≡ rows self.old) }
+        ensures call { CallsOnce (IsOk result) (IsErrOf result keeper_fault.Failed) (faults self.old) (faults self.new) (calls self.old) (calls self.new) (failures self.old) (failures self.new) }
+        ensures place { place self.new ≡ place self.old };
+}
+
+/// A keeper that is lent, with the meanings and counts of what it points to.
+impl<K: Keeper> Keeper for &mut K {
+    ghost use Rattle.std.specs.Borrow.{GName};
+
+    ghost rows = { λ k. K.rows k.now };
+
+    ghost faults = { λ k. K.faults k.now };
+
+    ghost calls = { λ k. K.calls k.now };
+
+    ghost failures = { λ k. K.failures k.now };
+
+    ghost Place = { GName };
+
+    ghost place = { λ k. k.ghost_name };
+
+    fn last_id(&mut self) -> Result<RowId, KeeperFault> {
+        (**self).last_id()
+    }
+
+    fn insert(&mut self, row: &Row, hash: i64) -> Result<(), KeeperFault> {
+        (**self).insert(row, hash)
+    }
+
+    fn fetch(&mut self, lower: RowId, hashes: &[i64], limit: u64) -> Result<Vec<Row>, KeeperFault> {
+        (**self).fetch(lower, hashes, limit)
+    }
+
+    fn trim(&mut self, before: Millis, below: RowId, limit: u64) -> Result<u64, KeeperFault> {
+        (**self).trim(before, below, limit)
+    }
+}
