@@ -13,7 +13,8 @@ use std::process::Abort;
 use std::test::Fail;
 use stream_set::StreamSet;
 
-const BOOK: &str = r#"{"tokens":{"t1":"alice"},"channels":[{"name":"Plain"}]}"#;
+const BOOK: &str =
+    r#"{"tokens":{"t1":"alice","t2":"bob"},"channels":[{"name":"Plain","actions":[{"name":"say","echo":true}]},{"name":"Chat","requires":["room"],"streams":["room_{room}"],"actions":[{"name":"speak","casts":["room_{room}"]},{"name":"receive","casts":["room_{room}"]},{"name":"quiet","stops":["room_{room}"]}]},{"name":"Pair","streams":["a","b"]},{"name":"Club","streams":["club"],"leave":[{"to":"club","payload":"{\"left\":1}"}]},{"name":"Free","requires":["name"],"streams":["{name}"]}]}"#;
 
 const PLAIN: &str = r#"{"channel":"Plain"}"#;
 
