@@ -5,5 +5,6 @@ mod Ending
 mod Showing
 pub mod Sitting
 pub mod Answering
-mod Turning
-mod Placing
+pub mod Turning
+mod Comparisons
+pub mod Placing

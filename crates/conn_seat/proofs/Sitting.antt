@@ -115,7 +115,7 @@ sits-take pl c past v new a h t b = go v.waiting refl
         let shown = shows-take pl (marks_at c past) s (λ sub want. finished c sub want past) v p ps (working pl c past a) free (sym h.shows.waiting ∙ e) h.shows in
         sits-room c (Step.Take c ∷ past) (with_first (p ∷ ps) v) new (subst (λ x. Becomes x new) taken b) (record { user = h.user; shows = subst (λ x. Shows (marks_at c past) x (with_first (p ∷ ps) v)) (sym now) shown })
 
-unmarked : (c : ℕ) (past : List Step) → UnmarkedAbove (seat c past).conn.made (marks_at c past)
+pub unmarked : (c : ℕ) (past : List Step) → UnmarkedAbove (seat c past).conn.made (marks_at c past)
 unmarked c past w l = go (mark_of w (marks c past)) refl
   where
     go : (o : Option ℕ) → mark_of w (marks c past) ≡ o → mark_of w (marks c past) ≡ None

@@ -51,7 +51,7 @@ marks-both ms turns (w ∷ ws) =
     ap (λ m. record { name = w.name; want = record { 0 = w.number }; mark = m } ∷ map (taken_stream turns) (map (marked_want (λ w. mark_of w ms)) ws)) mark
     ∙ ap (λ (es : List StreamEntry). marked_want (λ w. mark_of w (ms ++ turns)) w ∷ es) (marks-both ms turns ws)
 
-subs-both : (ms : List Mark) (turns : List Mark) (ss : List Sub) → taken_by turns (map (marked_sub (λ w. mark_of w ms)) ss) ≡ map (marked_sub (λ w. mark_of w (ms ++ turns))) ss
+pub subs-both : (ms : List Mark) (turns : List Mark) (ss : List Sub) → taken_by turns (map (marked_sub (λ w. mark_of w ms)) ss) ≡ map (marked_sub (λ w. mark_of w (ms ++ turns))) ss
 subs-both ms turns [] = refl
 subs-both ms turns (s ∷ ss) =
     ap (λ es. record { number = record { 0 = s.number }; identifier = s.identifier; streams = es } ∷ taken_by turns (map (marked_sub (λ w. mark_of w ms)) ss)) (marks-both ms turns s.wants)

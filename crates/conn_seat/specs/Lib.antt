@@ -2,3 +2,4 @@ pub mod Ends
 pub mod Seats
 pub mod Seated
 pub mod Turns
+pub mod Tasks

@@ -2,6 +2,7 @@
 //! them.
 #![tactic(auto)]
 
+mod comparing;
 mod laws;
 mod seats;
 mod striking;

@@ -1,12 +1,14 @@
-ghost use Rattle.std.specs.Prelude.{◌≡◌, ◌≤◌, ◌<◌, ◌+◌, ◌^◌, ◌-◌, true, not, map, is_some, length, filter, Some, IsOk, IsSome, IfOk, IfErr, OnOk, OnErr, option_map, option_copied};
+ghost use Rattle.std.specs.Prelude.{◌≡◌, ◌↔◌, ◌≤◌, ◌<◌, ◌+◌, ◌^◌, ◌-◌, true, not, map, is_some, length, filter, Some, IsOk, IsSome, IfOk, IfErr, OnOk, OnErr, option_map, option_copied};
 ghost use Rattle.cable_model.specs.Pieces.{Placed, is_closing};
 ghost use Rattle.cable_model.specs.Plans.{task_of};
 ghost use Rattle.cable_model.specs.Possible.{is_command, is_empty};
 ghost use Rattle.cable_model.specs.Wants.{makes};
 ghost use Rattle.conn_core.specs.Bare.{bare};
 ghost use Rattle.conn_core.specs.Subscriptions.{shown, AreApart, WantsApart, placed_in, waits_in};
+ghost use Rattle.conn_seat.specs.Tasks.{next_task_of, task_out_of};
 ghost use Rattle.conn_seat.specs.Seats.{Becomes, CanFinish, vacant, is_receiving_now, may_take_now, with_piece, with_taken, with_change};
 
+use crate::comparing::is_piece_task;
 use crate::striking::strike;
 use cable_base::{OutOfMemory, RowId, SubNo, WantNo};
 use cable_model::{Change, Piece, Plan, Task};
@@ -224,6 +226,30 @@ impl Seat {
             unreachable!()
         };
         self.conn.task(&taken.piece)
+    }
+
+    /// What the piece that `take` would take needs from the connection, so that the callbacks run without it. It is `None` where `take` would
+    /// take none.
+    pub fn next_task(&self) -> Result<Option<Task>, OutOfMemory>
+        ensures { IfOk result (λ t. t ≡ next_task_of self.now) }
+    {
+        if !self.may_take() {
+            return Ok(None);
+        }
+        let Some(piece) = self.inbox.first() else {
+            return Ok(None);
+        };
+        Ok(Some(self.conn.task(piece)?))
+    }
+
+    /// Whether this is what the piece that is out needs from the connection. It takes no memory.
+    pub fn is_task(&self, task: &Task) -> bool
+        ensures { (result ≡ true) ↔ (task_out_of self.now ≡ Some task.now) }
+    {
+        match &self.job {
+            Some(taken) => is_piece_task(task, self.conn.subs(), &taken.piece),
+            None => false,
+        }
     }
 
     /// Makes the room that `finish` of this plan needs, and keeps copies of the plan's names for it. It is refused where memory is wanted,

@@ -183,6 +183,72 @@ fn asks_for_what_the_job_needs(rt: HostRuntime) -> Result<(), Fail> {
     Ok(())
 }
 
+/// The task of the piece that would be taken next is asked for before it is taken, and known again behind that.
+fn knows_its_task(seat: &mut Seat) -> Result<bool, Fail> {
+    let next = seat.next_task()?;
+    let is_before = seat.is_task(&Task::Note(Note::BadJson));
+    let takes = seat.take();
+    let is_now = seat.is_task(&Task::Note(Note::BadJson));
+    let is_other = seat.is_task(&Task::Note(Note::BadData)) || seat.is_task(&Task::Nothing);
+    let none_next = seat.next_task()?;
+    Ok(
+        next == Some(Task::Note(Note::BadJson))
+            && !is_before
+            && takes
+            && is_now
+            && !is_other
+            && none_next.is_none(),
+    )
+}
+
+#[test]
+fn knows_the_task_of_its_job(rt: HostRuntime) -> Result<(), Fail> {
+    let mut seat = with_pieces(rt.alloc())?;
+    let knows_its_task = knows_its_task(&mut seat)?;
+    assert!(rt; knows_its_task);
+    Ok(())
+}
+
+/// The task of a message with this payload to the subscription, which has this one stream.
+fn performed(alloc: Global, payload: &str, stream: &str) -> Result<Task, OutOfMemory> {
+    let mut streams = Listed::empty(alloc);
+    streams.push(Name::new(alloc, stream)?)?;
+    Ok(Task::Perform {
+        identifier: Text::new(alloc, CHAT)?,
+        payload: Text::new(alloc, payload)?,
+        streams,
+    })
+}
+
+fn message(alloc: Global, payload: &str) -> Result<Piece, OutOfMemory> {
+    Ok(Piece::Cmd {
+        read: Ok(Command::Message {
+            identifier: Text::new(alloc, CHAT)?,
+            payload: Text::new(alloc, payload)?,
+        }),
+    })
+}
+
+/// A message's task has its payload, and the streams of its subscription.
+fn knows_a_message(seat: &mut Seat, alloc: Global) -> Result<bool, Fail> {
+    put(seat, message(alloc, "{}")?)?;
+    let takes = seat.take();
+    let is_its = seat.is_task(&performed(alloc, "{}", "a")?);
+    let is_other_payload = seat.is_task(&performed(alloc, "[]", "a")?);
+    let is_other_stream = seat.is_task(&performed(alloc, "{}", "b")?);
+    Ok(takes && is_its && !is_other_payload && !is_other_stream)
+}
+
+#[test]
+fn knows_the_task_of_a_message(rt: HostRuntime) -> Result<(), Fail> {
+    let alloc = rt.alloc();
+    let mut seat = Seat::open(alloc, "alice")?;
+    begin(&mut seat, alloc)?;
+    let knows_a_message = knows_a_message(&mut seat, alloc)?;
+    assert!(rt; knows_a_message);
+    Ok(())
+}
+
 /// Whether the subscription has the place of its Subscribe as its number, and made one want.
 fn is_numbered(seat: &Seat) -> bool {
     match seat.subs() {

@@ -95,7 +95,7 @@ prepares d c past v new a m =
 
 -- ---- puts
 
-piece-over : (p : Piece) (v : Seated) → (with_piece p v).over ≡ v.over
+pub piece-over : (p : Piece) (v : Seated) → (with_piece p v).over ≡ v.over
 piece-over p v = by-closing v.closing
   where
     by-closing : (b : Bool) → (cond b v (record v { waiting = v.waiting ++ record { place = v.last + 1; piece = p } ∷ []; last = v.last + 1; closing = is_closing p; spare = v.spare - 1 })).over ≡ v.over

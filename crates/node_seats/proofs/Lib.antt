@@ -5,3 +5,6 @@ pub mod Onward
 pub mod Counting
 pub mod Entries
 pub mod Opening
+pub mod Composing
+pub mod Rooming
+pub mod Delivering

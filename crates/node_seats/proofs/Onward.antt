@@ -79,7 +79,7 @@ onward past now v same leaves a =
       unopened = λ c e. (leaves c).seated ∙ a.unopened c (sym (ap (λ ks. list_any (λ d. d == c) ks) same) ∙ e);
     }
 
-some-is : (o p : Opened) → Some o ≡ Some p → o ≡ p
+pub some-is : (o p : Opened) → Some o ≡ Some p → o ≡ p
 some-is o p e = cc e
 
 -- another thing is kept of one number

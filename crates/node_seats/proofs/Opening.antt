@@ -22,11 +22,8 @@ use Rattle.node_seats.specs.declared.opened.Opened.TheVariants as kept
 use Rattle.node_seats.specs.Numbers.{Numbers, Rising, Restarts, Stops, opened_at, with_new}
 use Rattle.node_seats.specs.AreSeats.{IsOpened, AreSeats, AreWorked, Leaves}
 use Rattle.node_seats.proofs.Lookups.{new-there, new-elsewhere, new-keys}
-use Rattle.node_seats.proofs.Onward.{leaves-it, leaves-other, unused-is}
+use Rattle.node_seats.proofs.Onward.{leaves-it, leaves-other, some-is, unused-is}
 use Rattle.node_seats.proofs.Entries.{self, apart-test, put-over}
-
-some-is : (o p : Opened) → Some o ≡ Some p → o ≡ p
-some-is o p e = cc e
 
 or-false : (a b : Bool) → (a || b) ≡ false → (a ≡ false) × (b ≡ false)
 or-false false b h = (refl, h)

@@ -2,16 +2,21 @@ ghost use Rattle.std.specs.Prelude.{◌≡◌, ℕ, List, ◌∷◌, [], map, Op
 ghost use Rattle.cable_base.specs.declared.numbers.ConnNo.{ConnNo};
 ghost use Rattle.cable_base.specs.declared.numbers.RowId.{RowId};
 ghost use Rattle.cable_json.specs.Commands.{command_of};
+ghost use Rattle.cable_model.specs.declared.journals.ReadNote.{ReadNote};
 ghost use Rattle.cable_model.specs.declared.pieces.Piece.TheVariants as piece;
 ghost use Rattle.cable_model.specs.declared.plans.Change.{Change};
 ghost use Rattle.cable_model.specs.declared.plans.Plan.{Plan};
+ghost use Rattle.cable_model.specs.Pieces.{seat, deliver_puts};
 ghost use Rattle.cable_model.specs.Plans.{Callbacks};
 ghost use Rattle.cable_model.specs.Possible.{opened, is_opened, is_over, live_count, receiving, job_plan};
 ghost use Rattle.cable_model.specs.Steps.{Step};
+ghost use Rattle.cable_model.specs.Wants.{marks, turn_mark, user_of};
 ghost use Rattle.conn_seat.specs.Seats.{Seated, Becomes, CanFinish, vacant, may_take_now, with_piece, with_taken};
+ghost use Rattle.conn_seat.specs.Turns.{with_turn};
 ghost use Rattle.node_seats.specs.declared.opened.Opened.TheVariants as kept;
 ghost use Rattle.node_seats.specs.Numbers.{Numbers, Rising, Moves, Lives, Prepares, Finished, Stops, opened_at, is_over_at, live_among, receiving_among, with_new};
 ghost use Rattle.node_seats.specs.AreSeats.{AreSeats, AreWorked, Leaves};
+ghost use Rattle.node_seats.specs.Turned.{Turns};
 
 /// A law, which computes nothing. What a node answers of its numbers is what its journal says.
 pub fn numbers_are_the_journals()
@@ -60,4 +65,13 @@ pub fn finishes_of_numbers_are_entries()
     ensures { (r : Callbacks) (c : ℕ) (puts : List (Option RowId)) (plan : Plan) (past : List Step) (v new : Numbers)
         → AreWorked past → AreSeats past v → job_plan r c past ≡ Some plan → ((s : Seated) → opened_at c v ≡ Some (kept.Live s) → CanFinish plan.change s)
         → Moves c (Finished plan.change) v new → AreSeats (Step.Finish c puts plan ∷ past) new }
+{}
+
+/// A law, which computes nothing. A Deliver gives the streams that its turn takes their mark, and puts its pieces. That of a turn that was
+/// missed changes nothing.
+pub fn turns_of_numbers_are_entries()
+    ensures missed { (turn : ℕ) (note : ReadNote) (past : List Step) (v : Numbers) → note.failed ≡ true → AreSeats past v → AreSeats (Step.Deliver turn note ∷ past) v }
+    ensures found { (turn : ℕ) (note : ReadNote) (past : List Step) (v new : Numbers) → AreWorked past → AreSeats past v → note.failed ≡ false
+        → Turns (λ c s t. Becomes (with_turn (turn_mark c note past) (deliver_puts (user_of c past) (marks c past) (turn_mark c note past) (seat c past).conn.subs note.rows) s) t) v new
+        → AreSeats (Step.Deliver turn note ∷ past) new }
 {}

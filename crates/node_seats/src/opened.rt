@@ -1,10 +1,11 @@
 ghost use Rattle.std.specs.Prelude.{◌≡◌, ◌≤◌, IsOk, OnErr, OnOk, Some, false, is_some, true};
 ghost use Rattle.cable_model.specs.Pieces.{is_closing};
+ghost use Rattle.conn_core.specs.Subscriptions.{placed_in};
 ghost use Rattle.conn_seat.specs.Seats.{Seated, Becomes, CanFinish, may_take_now, with_piece, with_taken};
 ghost use Rattle.node_seats.specs.declared.opened.Opened.TheVariants as opened;
 ghost use Rattle.node_seats.specs.Numbers.{CanRestart, Finished, HasRoomIn, Lives, Prepares, Restarts, Widens, is_receiving_in, may_take_in, seat_in, weight};
 
-use cable_base::OutOfMemory;
+use cable_base::{OutOfMemory, RowId, SubNo, WantNo};
 use cable_model::{Piece, Plan};
 use conn_seat::Seat;
 
@@ -99,6 +100,19 @@ pub fn reserve_plan(kept: &mut Opened, plan: &Plan) -> Result<(), OutOfMemory>
         unreachable!()
     };
     seat.reserve_plan(plan)
+}
+
+/// Gives the want of a live connection its mark.
+pub fn place(kept: &mut Opened, sub: SubNo, want: WantNo, mark: RowId) -> bool
+    requires { is_some (seat_in (Some kept.old)) ≡ true }
+    ensures placed { Lives (λ s t. t ≡ record s { subs = placed_in sub want mark s.subs }) kept.old kept.new }
+    ensures live { weight kept.new ≡ weight kept.old }
+    ensures keeps { CanRestart kept.old → CanRestart kept.new }
+{
+    let Opened::Live(seat) = kept else {
+        unreachable!()
+    };
+    seat.place(sub, want, mark)
 }
 
 /// Makes the change of the plan of a live connection's job, and answers whether it ended the connection.

@@ -4,12 +4,14 @@ ghost use Rattle.cable_model.specs.Pieces.{Placed, is_closing};
 ghost use Rattle.cable_model.specs.Plans.{task_of};
 ghost use Rattle.cable_model.specs.Wants.{makes};
 ghost use Rattle.conn_core.specs.Bare.{bare};
+ghost use Rattle.conn_core.specs.Subscriptions.{placed_in};
+ghost use Rattle.node_seats.specs.Turned.{next_task_at};
 ghost use Rattle.conn_seat.specs.Seats.{Seated, Becomes, CanFinish, vacant, with_piece, with_taken, may_take_now};
 ghost use Rattle.node_seats.specs.declared.opened.Opened.TheVariants as opened;
 ghost use Rattle.node_seats.specs.Numbers.{opened_at, seat_at, is_over_at, may_take_at, live_among, Rising, receiving_among, with_new, Moves, Lives, HasRoomAt, Widens, Prepares, Finished, Stops};
 
 use crate::opened::{self, Opened};
-use cable_base::{ConnNo, OutOfMemory};
+use cable_base::{ConnNo, OutOfMemory, RowId, SubNo, WantNo};
 use cable_model::{Piece, Plan, Task};
 use conn_seat::Seat;
 use std::alloc::Global;
@@ -175,6 +177,29 @@ impl Seats {
             unreachable!()
         };
         seat.task()
+    }
+
+    /// What the piece that `take` would take needs from its connection, so that the callbacks run without it. It is `None` where the connection
+    /// isn't live or `take` would take none.
+    pub fn next_task(&self, conn: ConnNo) -> Result<Option<Task>, OutOfMemory>
+        ensures { IfOk result (λ t. t ≡ next_task_at conn.0 self.now.entries) }
+    {
+        match self.get(conn) {
+            Some(seat) => seat.next_task(),
+            None => Ok(None),
+        }
+    }
+
+    /// Gives the want of a live connection its mark: from now on its stream is held. `false` where it doesn't stand without a mark. It takes
+    /// no memory.
+    pub fn place(&mut self, conn: ConnNo, sub: SubNo, want: WantNo, mark: RowId) -> bool
+        requires live { is_some (seat_at conn.0 self.old.entries) ≡ true }
+        ensures placed { Moves conn.0 (Lives (λ s t. t ≡ record s { subs = placed_in sub want mark s.subs })) self.old.entries self.new.entries }
+    {
+        let Some(kept) = self.by_number.get_mut(&conn.0) else {
+            unreachable!()
+        };
+        opened::place(kept, sub, want, mark)
     }
 
     /// Makes the room that `finish` of this plan needs on a live connection. It is refused where memory is wanted, or where there are no

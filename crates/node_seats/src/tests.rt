@@ -1,12 +1,7 @@
-ghost use Rattle.std.specs.Prelude.{◌≡◌, Some, true, is_some};
-ghost use Rattle.conn_seat.specs.Seats.{Seated};
-ghost use Rattle.node_seats.specs.declared.opened.Opened.TheVariants as opened;
-ghost use Rattle.node_seats.specs.Numbers.{opened_at};
-
-use crate::Seats;
-use cable_base::{ConnNo, Listed, OutOfMemory};
+use crate::{Delivery, Seats, Wanted};
+use cable_base::{ConnNo, OutOfMemory, RowId, SubNo, WantNo};
 use cable_json::CommandFault;
-use cable_model::{Change, Closing, Piece, Plan, Task};
+use cable_model::Piece;
 use std::alloc::Global;
 use std::test::Fail;
 
@@ -113,6 +108,82 @@ fn stops_each_live_one(rt: HostRuntime) -> Result<(), Fail> {
             Some(seat) => assert!(rt; seat.job() == Some(&piece) && !seat.has_waiting()),
             None => return Err(Fail::from("it isn't live")),
         }
+    }
+    Ok(())
+}
+
+/// Pieces for two connections, and one for a number that wasn't opened.
+fn deliveries(alloc: Global) -> Result<Vec<Delivery>, OutOfMemory> {
+    let mut deliveries = Vec::new(alloc);
+    for (conn, piece) in [
+        (ANN, Piece::Confirm { sub: SubNo(4) }),
+        (BEN, Piece::Remote { reconnect: true }),
+        (ANN, faulty()),
+        (ConnNo(5), Piece::Gone),
+        (BEN, faulty()),
+    ] {
+        deliveries.push(Delivery { conn, piece })?;
+    }
+    Ok(deliveries)
+}
+
+fn deliver(seats: &mut Seats, alloc: Global) -> Result<(), OutOfMemory> {
+    let deliveries = deliveries(alloc)?;
+    seats.reserve_all(alloc, &deliveries)?;
+    seats.put_all(deliveries);
+    Ok(())
+}
+
+/// Whether this piece is taken first, and whether others wait behind it.
+fn takes(seats: &mut Seats, conn: ConnNo, piece: &Piece, more: bool) -> Result<bool, Fail> {
+    if !take(seats, conn)? {
+        return Ok(false);
+    }
+    match seats.get(conn) {
+        Some(seat) => Ok(seat.job() == Some(piece) && seat.has_waiting() == more),
+        None => Ok(false),
+    }
+}
+
+#[test]
+fn delivers_to_two_connections(rt: HostRuntime) -> Result<(), Fail> {
+    let alloc = rt.alloc();
+    let mut seats = Seats::empty(alloc);
+    open(&mut seats, alloc, ANN, "ann")?;
+    open(&mut seats, alloc, BEN, "ben")?;
+    deliver(&mut seats, alloc)?;
+    assert!(rt; !seats.is_used(ConnNo(5)));
+    assert!(rt; takes(&mut seats, ANN, &Piece::Confirm { sub: SubNo(4) }, true)?);
+    assert!(rt; takes(&mut seats, BEN, &Piece::Remote { reconnect: true }, false)?);
+    Ok(())
+}
+
+const WANTED: Wanted = Wanted {
+    conn: ANN,
+    sub: SubNo(1),
+    want: WantNo(1),
+    confirms: true,
+};
+
+#[test]
+fn places_no_want_that_does_not_stand(rt: HostRuntime) -> Result<(), Fail> {
+    let alloc = rt.alloc();
+    let mut seats = Seats::empty(alloc);
+    open(&mut seats, alloc, ANN, "ann")?;
+    seats.place_all(
+        &[
+            Wanted {
+                conn: BEN,
+                ..WANTED
+            },
+            WANTED,
+        ],
+        RowId(7),
+    );
+    assert!(rt; !seats.is_used(BEN) && seats.next_task(ANN)?.is_none());
+    match seats.get(ANN) {
+        Some(seat) => assert!(rt; seat.subs().is_empty()),
+        None => return Err(Fail::from("it isn't live")),
     }
     Ok(())
 }

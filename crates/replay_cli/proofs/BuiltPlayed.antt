@@ -41,9 +41,9 @@ event_played squeezes (event.Put conn at) line b s = absurd cc
 event_played squeezes (event.Finish conn) line b s = tt
 event_played squeezes (event.Cast at channel payload) line b s = within squeezes channel s.0 payload at.0 s.1.0.1 s.1.1
 event_played squeezes (event.Trim now retention batch) line b s = tt
-event_played squeezes (event.Ask node) line b s = absurd cc
-event_played squeezes (event.Read node) line b s = absurd cc
-event_played squeezes (event.Deliver node) line b s = absurd cc
+event_played squeezes (event.Ask node) line b s = eqb-true node.0 1 b
+event_played squeezes (event.Read node) line b s = eqb-true node.0 1 b
+event_played squeezes (event.Deliver node) line b s = eqb-true node.0 1 b
 event_played squeezes (event.Beat node now) line b s = eqb-true node.0 1 b
 event_played squeezes event.Fault line b s = tt
 
@@ -67,7 +67,9 @@ built_each : Squeezes → (v : Verb) (line : List ℕ) → is_built_verb v ≡ t
 built_each squeezes (One e) line b s = all_one e (event_played squeezes e line b s)
 built_each squeezes (Work conn at puts) line b s =
     All-cons IsPlayed (event.Take conn) (replicate puts (event.Put conn at) ++ event.Finish conn ∷ []) tt (puts_played puts (event.Put conn at) (event.Finish conn) tt tt)
-built_each squeezes (Poll node) line b s = absurd cc
+built_each squeezes (Poll node) line b s =
+    let one = eqb-true node.0 1 b in
+    All-cons IsPlayed (event.Ask node) (event.Read node ∷ event.Deliver node ∷ []) one (All-cons IsPlayed (event.Read node) (event.Deliver node ∷ []) one (all_one (event.Deliver node) one))
 
 -- lines that spell built verbs are played
 pub all_played : Squeezes → (vs : List Verb) (lines : List (List ℕ)) → AllSpell vs lines → list_all is_built_verb vs ≡ true → All IsPlayedLine vs

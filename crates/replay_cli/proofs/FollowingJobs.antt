@@ -1,72 +1,62 @@
 -- A session's takes and finishes are the model's.
-use Rattle.std.proofs.Common.{◌≡◌, ℕ, ◌+◌, ◌-◌, ◌<◌, ◌^◌, ◌==◌, Bool, true, false, ◌&&◌, not, cond, List, [], length, Option, Some, None, refl, sym, ap, subst, ◌∙◌}
+use Rattle.std.proofs.Common.{◌≡◌, ℕ, ◌==◌, Bool, true, false, cond, not, ◌&&◌, List, [], ◌∷◌, ◌++◌, ◌≤◌, length, Option, Some, None, refl, sym, ap, subst, ◌∙◌, arith}
 use Rattle.std.specs.Prelude.{is_some, ltb, option_map}
+use Rattle.std.specs.BTreeMap.{is_at}
+use Rattle.std.specs.List.Sorted.{IsStrictlySortedBy}
+use Rattle.std.specs.Map.{lookup, keys_of}
+use Rattle.std.specs.Ordering.{nat_cmp}
+use Rattle.std.proofs.lemmas.Bool.Decides.{nat_tests}
 use Rattle.cable_base.specs.declared.numbers.ConnNo.{ConnNo}
+use Rattle.cable_base.specs.declared.numbers.NodeNo.{NodeNo}
 use Rattle.cable_base.specs.declared.numbers.Millis.{Millis}
+use Rattle.cable_base.specs.declared.numbers.RowId.{RowId}
 use Rattle.cable_model.specs.declared.events.Event.TheVariants as event
+use Rattle.cable_model.specs.declared.lines.Line.{Line}
 use Rattle.cable_model.specs.declared.pieces.Piece.{Piece}
 use Rattle.cable_model.specs.declared.plans.Plan.{Plan}
-use Rattle.cable_model.specs.Plans.{task_of}
+use Rattle.cable_model.specs.declared.plans.Task.{Task}
+use Rattle.cable_model.specs.Plans.{Callbacks, task_of, plan_for, plan_of}
 use Rattle.cable_model.specs.Steps.{Step}
-use Rattle.cable_model.specs.Wants.{user_of, makes}
+use Rattle.cable_model.specs.Wants.{user_of}
 use Rattle.cable_model.specs.Window.{job}
-use Rattle.cable_model.specs.Pieces.{Placed, seat, waiting}
-use Rattle.cable_model.specs.Possible.{is_empty, can_take, can_put, can_finish, has_job, has_cast_left, has_no_cast_left, job_plan, planned}
-use Rattle.cable_model.specs.History.{Rules, World, at_home, logged, with_puts, at_number, finish}
-use Rattle.cable_model.specs.Transcript.{finish_lines, plan_lines}
-use Rattle.conn_core.specs.Bare.{bare}
-use Rattle.conn_core.specs.Payloads.{CarriesJson}
-use Rattle.conn_seat.specs.Seats.{Seated, Becomes, CanFinish, may_take_now, with_taken}
-use Rattle.conn_seat.specs.Seated.{SeatOf, plan_of_piece, job_out}
-use Rattle.conn_seat.proofs.Answering.{answers, plans, finishable}
-use Rattle.node_seats.specs.declared.opened.Opened.{Opened}
-use Rattle.node_seats.specs.declared.opened.Opened.TheVariants as kept
-use Rattle.node_seats.specs.Numbers.{Numbers, Moves, Lives, Finished, Prepares, opened_at, seat_at, seat_in, may_take_at, may_take_in}
-use Rattle.node_seats.specs.AreSeats.{IsOpened}
-use Rattle.node_seats.proofs.Entries.{takes, takes-none, finishes, prepares, live}
-use Rattle.node_seats.proofs.Lookups.{found-there}
+use Rattle.cable_model.specs.Pieces.{seat, waiting, with_job, with_plan}
+use Rattle.cable_model.specs.Possible.{is_empty, is_live, is_opened, can_take, can_put, can_finish, has_job, has_cast_left, has_no_cast_left, job_plan, planned}
+use Rattle.cable_model.specs.History.{Rules, World, at_home, home_of, logged, with_puts, at_number, finish}
+use Rattle.cable_model.specs.HistoryLaws.{planner_of}
+use Rattle.cable_model.specs.Transcript.{lines_of, finish_lines, plan_lines, queued}
+use Rattle.cable_model.proofs.JobsStay.{keeps_job, unopened-user}
+use Rattle.node_core.specs.Jobs.{JobState, WorkState, IsJob, IsWorkOut, Fits, task_out, work_of}
+use Rattle.node_core.specs.Nodes.{NodeState, TakesNone, past, taken_out}
+use Rattle.table_core.specs.Memory.{MemRows}
+use Rattle.table_core.specs.Tables.{TableState}
+use Rattle.replay_cli.specs.declared.outstanding.OutWork.{OutWork}
 use Rattle.replay_cli.specs.declared.saying.Said.{Said}
-use Rattle.replay_cli.specs.Sessions.{Held, NoCasts, FollowsWorld, StepsAs, has_job_in, has_job_at, idle_said, silent_said}
-use Rattle.replay_cli.proofs.Following.{idle_steps, possible_steps, Comes, comes, same-table, worked, home-some, home-is, LiveAt, one-entry, tested}
+use Rattle.replay_cli.specs.Draining.{left_on}
+use Rattle.replay_cli.specs.Sessions.{Held, NoCasts, IsNodeOf, IsNode, IsWorkOf, IsWorkAt, IsTurnIn, IsTableOf, work_at, FollowsWorld, FollowsSome, StepsAs, idle_said, silent_said}
 use Rattle.replay_cli.proofs.Castless.{castless}
-use Rattle.replay_cli.proofs.Rowless.{NoRow, rowless, rowless-at, carries}
+use Rattle.replay_cli.proofs.Following.{idle_steps, possible_steps, Comes, comes, worked-now, node-of, unbooted, never-home, tested-home, dead-unopened, home-live, home-one, entered, node-same, follows-same, one-entry, SameTurn, turn-stays}
+use Rattle.replay_cli.proofs.FollowingNode.{drained-entry, left-lines, taken-within}
+use Rattle.replay_cli.proofs.WorksStay.{work-stays, no-plan}
 
--- ---- a take
+-- ---- the works behind an entry of one connection
 
-takes-at : (r : Rules) (h : Held) (w : World) (c : ℕ) → FollowsWorld r h w → may_take_at c h.entries ≡ at_home w c (can_take c)
-takes-at r h w c f = tested r h w c (λ o. may_take_in (seat_in o)) (can_take c) f refl by-kept
+-- where its own work becomes this, and the others' works stay
+pub works-now : (r : Rules) (h : Held) (w : World) (c : ℕ) (e : Step) (own : Option OutWork) (new : List (ℕ × OutWork)) → FollowsWorld r h w → ((d : ℕ) → (c == d) ≡ false → keeps_job d e ≡ true)
+    → ((d : ℕ) → work_at d new ≡ cond (is_at (nat_cmp c) d) own (work_at d h.works)) → IsWorkAt r.callbacks c (e ∷ w.nodes 1) own → (d : ℕ) → IsWorkAt r.callbacks d (e ∷ w.nodes 1) (work_at d new)
+works-now r h w c e own new f keeps found mine d = by-test (c == d) refl
   where
-    by-kept : (o : Opened) → opened_at c h.entries ≡ Some o → IsOpened c (w.nodes 1) o → may_take_in (seat_in (Some o)) ≡ can_take c (w.nodes 1)
-    by-kept (kept.Live s) at is = let pl = worked r h w f c s.user is.0.user in (answers pl.0 c (w.nodes 1) s pl.1 is.0).takes
-    by-kept kept.Over at is = sym (ap (λ b. b && not (has_job (seat c (w.nodes 1))) && not (is_empty (waiting (seat c (w.nodes 1))))) is.live)
+    by-test : (b : Bool) → (c == d) ≡ b → IsWorkAt r.callbacks d (e ∷ w.nodes 1) (work_at d new)
+    by-test true is =
+        let same : c ≡ d = grind (arith, nat_tests) in
+        let hit : is_at (nat_cmp c) d ≡ true = grind (arith, nat_tests) in
+        let own_is : work_at d new ≡ own = found d ∙ ap (λ b. cond b own (work_at d h.works)) hit in
+        subst (λ o. IsWorkAt r.callbacks d (e ∷ w.nodes 1) o) (sym own_is) (subst (λ k. IsWorkAt r.callbacks k (e ∷ w.nodes 1) own) same mine)
+    by-test false is =
+        let miss : is_at (nat_cmp c) d ≡ false = grind (arith, nat_tests) in
+        let stays : work_at d new ≡ work_at d h.works = found d ∙ ap (λ b. cond b own (work_at d h.works)) miss in
+        subst (λ o. IsWorkAt r.callbacks d (e ∷ w.nodes 1) o) (sym stays)
+        (work-stays (planner_of r.callbacks (user_of d (w.nodes 1))) r.callbacks d e (w.nodes 1) (work_at d h.works) (worked-now r h w f d) (keeps d is) (f.works d))
 
-none-is : (o : Option Seated) → is_some o ≡ false → o ≡ None
-none-is None e = refl
-none-is (Some s) e = absurd cc
-
-pub take_none : (r : Rules) (h : Held) (c : ConnNo) → is_some (seat_at c.0 h.entries) ≡ false → StepsAs r (event.Take c) h idle_said h
-take_none r h c none = idle_steps r (event.Take c) h h (λ w f. sym (takes-at r h w c.0 f) ∙ ap may_take_in (none-is (seat_at c.0 h.entries) none)) (λ w f. f)
-
--- what the answer says of the connection
-may-at : (c : ℕ) (v : Numbers) (b : Bool) → may_take_at c v ≡ b → (s : Seated) → opened_at c v ≡ Some (kept.Live s) → may_take_now s ≡ b
-may-at c v b may s at = sym (ap (λ o. may_take_in (seat_in o)) at) ∙ may
-
-pub take_idle : (r : Rules) (h h' : Held) (c : ConnNo) → may_take_at c.0 h.entries ≡ false → h'.booted ≡ h.booted → h'.table ≡ h.table → Moves c.0 (Lives (λ s t. Becomes (with_taken s) t)) h.entries h'.entries
-    → StepsAs r (event.Take c) h idle_said h'
-take_idle r h h' c may_not b' t' m =
-    idle_steps r (event.Take c) h h' (λ w f. sym (takes-at r h w c.0 f) ∙ may_not)
-    (λ w f. record {
-      events = f.events;
-      ran = f.ran;
-      booted = b' ∙ f.booted;
-      seats = takes-none c.0 (w.nodes 1) h.entries h'.entries f.seats m (may-at c.0 h.entries false may_not);
-      home = f.home;
-      puts = f.puts;
-      turnless = f.turnless;
-      table = same-table h.table h'.table w.table w.failing t' f.table;
-    })
-
--- no commits are made for any job
 no-puts : (w : World) (c : ℕ) → ((d : ℕ) → w.puts d ≡ []) → (d : ℕ) → at_number c [] w.puts d ≡ []
 no-puts w c h d = by-test (d == c)
   where
@@ -74,164 +64,210 @@ no-puts w c h d = by-test (d == c)
     by-test true = refl
     by-test false = h d
 
-with-none : (h' : Held) (w now : World) (c : ℕ) → ((d : ℕ) → w.puts d ≡ []) → now.puts ≡ w.puts → Comes h' now → Comes h' (with_puts now c [])
-with-none h' w now c none same k =
-    record { booted = k.booted; seats = k.seats; home = k.home; puts = no-puts now c k.puts; turnless = k.turnless; table = k.table }
+-- ---- plans
 
-pub take_steps : (r : Rules) (h h' : Held) (c : ConnNo) (l : LiveAt c.0 h.entries) → may_take_at c.0 h.entries ≡ true → h'.booted ≡ h.booted → h'.table ≡ h.table
-    → Moves c.0 (Lives (λ s t. Becomes (with_taken s) t)) h.entries h'.entries → StepsAs r (event.Take c) h silent_said h'
-take_steps r h h' c l may_now b' t' m =
-    possible_steps r (event.Take c) h h' silent_said (λ w f. sym (takes-at r h w c.0 f) ∙ may_now) refl (λ w f. refl)
-    (λ w f may. comes r h h' w (with_puts (logged w 1 (Step.Take c.0)) c.0 []) (event.Take c) f may
-    (ap (λ n. with_puts (logged w n (Step.Take c.0)) c.0 []) (home-is w c.0 (home-some r h w c.0 (kept.Live l.seated) f l.found)))
-    (with-none h' w (logged w 1 (Step.Take c.0)) c.0 f.puts refl
-    (one-entry r h h' w c.0 l.seated (Step.Take c.0) f l.found b' t' refl f.turnless
-    (takes c.0 (w.nodes 1) h.entries h'.entries (worked r h w f) f.seats m (may-at c.0 h.entries true may_now)))))
-
--- ---- a job
-
--- the connection of a number, as it is shown
-pub seat-found : (c : ℕ) (v : Numbers) (s : Seated) → seat_at c v ≡ Some s → opened_at c v ≡ Some (kept.Live s)
-seat-found c v s at = by-kept (opened_at c v) at
+-- the plan of a task that is out
+plan-out : (r : Callbacks) (c : ℕ) (steps : List Step) (user : List ℕ) (t : Task) → user_of c steps ≡ Some user → task_out c steps ≡ Some t → job_plan r c steps ≡ Some (plan_for r user t)
+plan-out r c steps user t opened_by out = by-out (has_job (seat c steps)) (job (seat c steps)) refl refl out
   where
-    by-kept : (o : Option Opened) → seat_in o ≡ Some s → o ≡ Some (kept.Live s)
-    by-kept None e = absurd cc
-    by-kept (Some (kept.Live t)) e = ap (λ (x : Option Seated). option_map (λ (y : Seated). let k : Opened = kept.Live y in k) x) e
-    by-kept (Some kept.Over) e = absurd cc
+    by-out : (b : Bool) (o : Option Piece) → has_job (seat c steps) ≡ b → job (seat c steps) ≡ o → cond b (option_map (task_of (seat c steps).conn) o) None ≡ Some t
+        → job_plan r c steps ≡ Some (plan_for r user t)
+    by-out true (Some p) b o e = rw (b, o, opened_by) (let same : task_of (seat c steps).conn p ≡ t = cc in ap (λ x. Some (plan_for r user x)) same)
+    by-out true None b o e = absurd cc
+    by-out false o b is e = absurd cc
 
-pub record JobAt (c : ℕ) (v : Numbers) : Type 0 where
-  pub seated : Seated
-  pub placed : Placed
-  pub found : opened_at c v ≡ Some (kept.Live seated)
-  pub out : seated.job ≡ Some placed
+-- a plan is one of a task
+record Planned (r : Callbacks) (plan : Plan) : Type 0 where
+  pub user : List ℕ
+  pub task : Task
+  pub is : plan ≡ plan_for r user task
 
--- the job of a seat
-pub record OutOf (s : Seated) : Type 0 where
-  pub placed : Placed
-  pub out : s.job ≡ Some placed
-
-pub out-of : (c : ℕ) (v : Numbers) (s : Seated) → opened_at c v ≡ Some (kept.Live s) → has_job_at c v ≡ true → OutOf s
-out-of c v s at some = by-job s.job refl (sym (ap (λ o. has_job_in (seat_in o)) at) ∙ some)
+plan-of : (r : Callbacks) (c : ℕ) (steps : List Step) (plan : Plan) → job_plan r c steps ≡ Some plan → Planned r plan
+plan-of r c steps plan = by-out (has_job (seat c steps)) (user_of c steps) (job (seat c steps))
   where
-    by-job : (o : Option Placed) → s.job ≡ o → is_some s.job ≡ true → OutOf s
-    by-job None e has = absurd (let f : false ≡ true = sym (ap is_some e) ∙ has in cc)
-    by-job (Some q) e has = record { placed = q; out = e }
+    by-out : (b : Bool) (u : Option (List ℕ)) (o : Option Piece) → cond b (planned r u (seat c steps).conn o) None ≡ Some plan → Planned r plan
+    by-out true (Some user) (Some p) e = record { user = user; task = task_of (seat c steps).conn p; is = cc }
+    by-out true (Some user) None e = absurd cc
+    by-out true None o e = absurd cc
+    by-out false u o e = absurd cc
 
-pub job-at : (c : ℕ) (v : Numbers) → has_job_at c v ≡ true → JobAt c v
-job-at c v some = by-kept (opened_at c v) refl some
-  where
-    by-kept : (o : Option Opened) → opened_at c v ≡ o → has_job_in (seat_in o) ≡ true → JobAt c v
-    by-kept None at has = absurd cc
-    by-kept (Some (kept.Live s)) at has = let o = out-of c v s at some in record { seated = s; placed = o.placed; found = at; out = o.out }
-    by-kept (Some kept.Over) at has = absurd cc
+module _ (r : Rules) (no_casts : NoCasts r.callbacks) where
+  plan-casts : (c : ℕ) (steps : List Step) (plan : Plan) → job_plan r.callbacks c steps ≡ Some plan → plan.casts ≡ []
+  plan-casts c steps plan e = let p = plan-of r.callbacks c steps plan e in ap (λ (x : Plan). x.casts) p.is ∙ castless r.callbacks no_casts p.user p.task
 
--- no piece that is out is a row
-pub job-carries : (r : Rules) (h : Held) (w : World) (c : ℕ) (s : Seated) (q : Placed) → FollowsWorld r h w → opened_at c h.entries ≡ Some (kept.Live s) → s.job ≡ Some q
-    → CarriesJson (task_of (bare s.subs) q.piece)
-job-carries r h w c s q f at out = carries (bare s.subs) q.piece (by-job (has_job (seat c (w.nodes 1))) (job (seat c (w.nodes 1))) refl (sym shown ∙ out))
-  where
-    shown : s.job ≡ job_out (seat c (w.nodes 1))
-    shown = (f.seats.each c (kept.Live s) at).0.shows.job
-
-    by-job : (b : Bool) (o : Option Piece) → job (seat c (w.nodes 1)) ≡ o → cond b (option_map (λ (p : Piece). let x : Placed = record { place = (seat c (w.nodes 1)).taken; piece = p } in x) o) None ≡ Some q → NoRow q.piece
-    by-job true (Some p) is e =
-        let same : p ≡ q.piece = ap (piece-or p) e in
-        subst NoRow same (rowless-at (seat c (w.nodes 1)).pieces ((seat c (w.nodes 1)).taken - 1) p (rowless c (w.nodes 1) f.turnless) is)
-      where
-        piece-or : Piece → Option Placed → Piece
-        piece-or p None = p
-        piece-or p (Some x) = x.piece
-    by-job true None is e = absurd cc
-    by-job false o is e = absurd cc
-
-live-or : Seated → Option Opened → Seated
-live-or s None = s
-live-or s (Some (kept.Live t)) = t
-live-or s (Some kept.Over) = s
-
-some-live : (s t : Seated) → Some (kept.Live s) ≡ Some (kept.Live t) → s ≡ t
-unfolding live-or
-some-live s t e = ap (live-or s) e
-
-module _ (r : Rules) (n : NoCasts r.callbacks) where
-  casts-none : (s : Seated) (p : Piece) → (plan_of_piece r.callbacks s p).casts ≡ []
-  casts-none s p = castless r.callbacks n s.user (task_of (bare s.subs) p)
-
-  -- the plan of a job, where one is out
-  planned-at : (h : Held) (w : World) (c : ℕ) (s : Seated) → FollowsWorld r h w → IsOpened c (w.nodes 1) (kept.Live s)
-      → job_plan r.callbacks c (w.nodes 1) ≡ option_map (λ (q : Placed). plan_of_piece r.callbacks s q.piece) s.job
-  planned-at h w c s f is = by-job s.job refl
+  never-left : (c : ℕ) (steps : List Step) → has_cast_left [] (job_plan r.callbacks c steps) ≡ false
+  never-left c steps = by-plan (job_plan r.callbacks c steps) refl
     where
-      by-job : (o : Option Placed) → s.job ≡ o → job_plan r.callbacks c (w.nodes 1) ≡ option_map (λ (q : Placed). plan_of_piece r.callbacks s q.piece) o
-      by-job None e = let pl = worked r h w f c s.user is.0.user in (plans pl.0 c (w.nodes 1) s pl.1 is.0).none r.callbacks e
-      by-job (Some q) e = let pl = worked r h w f c s.user is.0.user in (plans pl.0 c (w.nodes 1) s pl.1 is.0).out r.callbacks q e
-
-  no-job-plan : (c : ℕ) (past : List Step) → has_job (seat c past) ≡ false → job_plan r.callbacks c past ≡ None
-  no-job-plan c past e = ap (λ b. cond b (planned r.callbacks (user_of c past) (seat c past).conn (job (seat c past))) None) e
-
-  finishes-at : (h : Held) (w : World) (c : ℕ) → FollowsWorld r h w → has_job_at c h.entries ≡ at_home w c (can_finish r.callbacks c (w.puts c))
-  finishes-at h w c f = tested r h w c (λ o. has_job_in (seat_in o)) (can_finish r.callbacks c (w.puts c)) f refl by-kept
-    where
-      by-out : (s : Seated) (o : Option Placed) → is_some o ≡ has_no_cast_left [] (option_map (λ (q : Placed). plan_of_piece r.callbacks s q.piece) o)
-      by-out s None = refl
-      by-out s (Some q) = sym (ap (λ cs. not (ltb 0 (length cs))) (casts-none s q.piece))
-
-      by-kept : (o : Opened) → opened_at c h.entries ≡ Some o → IsOpened c (w.nodes 1) o → has_job_in (seat_in (Some o)) ≡ can_finish r.callbacks c (w.puts c) (w.nodes 1)
-      by-kept (kept.Live s) at is =
-          by-out s s.job ∙ ap (has_no_cast_left []) (sym (planned-at h w c s f is)) ∙ ap (λ ids. has_no_cast_left ids (job_plan r.callbacks c (w.nodes 1))) (sym (f.puts c))
-      by-kept kept.Over at is = sym (ap (has_no_cast_left (w.puts c)) (no-job-plan c (w.nodes 1) is.job))
+      by-plan : (o : Option Plan) → job_plan r.callbacks c steps ≡ o → has_cast_left [] o ≡ false
+      by-plan None e = refl
+      by-plan (Some plan) e = ap (λ cs. ltb 0 (length cs)) (plan-casts c steps plan e)
 
   pub put_idle : (h : Held) (c : ConnNo) (at : Millis) → StepsAs r (event.Put c at) h idle_said h
-  put_idle h c at = idle_steps r (event.Put c at) h h (λ w f. sym (tested r h w c.0 (λ o. false) (can_put r.callbacks c.0 (w.puts c.0)) f refl (by-kept w f))) (λ w f. f)
+  put_idle h c at = idle_steps r (event.Put c at) h h (λ w f. tested-home r h w c.0 (can_put r.callbacks c.0 (w.puts c.0)) f (λ e. left w f) ∙ left w f) (λ w f. f)
     where
-      by-out : (s : Seated) (o : Option Placed) → false ≡ has_cast_left [] (option_map (λ (q : Placed). plan_of_piece r.callbacks s q.piece) o)
-      by-out s None = refl
-      by-out s (Some q) = sym (ap (λ cs. ltb 0 (length cs)) (casts-none s q.piece))
+      left : (w : World) → FollowsWorld r h w → can_put r.callbacks c.0 (w.puts c.0) (w.nodes 1) ≡ false
+      left w f = ap (λ ids. has_cast_left ids (job_plan r.callbacks c.0 (w.nodes 1))) (f.puts c.0) ∙ never-left c.0 (w.nodes 1)
 
-      by-kept : (w : World) → FollowsWorld r h w → (o : Opened) → opened_at c.0 h.entries ≡ Some o → IsOpened c.0 (w.nodes 1) o → false ≡ can_put r.callbacks c.0 (w.puts c.0) (w.nodes 1)
-      by-kept w f (kept.Live s) at is =
-          by-out s s.job ∙ ap (has_cast_left []) (sym (planned-at h w c.0 s f is)) ∙ ap (λ ids. has_cast_left ids (job_plan r.callbacks c.0 (w.nodes 1))) (sym (f.puts c.0))
-      by-kept w f kept.Over at is = sym (ap (has_cast_left (w.puts c.0)) (no-job-plan c.0 (w.nodes 1) is.job))
+-- ---- a take
 
-  pub finish_idle : (h : Held) (c : ConnNo) → has_job_at c.0 h.entries ≡ false → StepsAs r (event.Finish c) h idle_said h
-  finish_idle h c none = idle_steps r (event.Finish c) h h (λ w f. sym (finishes-at h w c.0 f) ∙ none) (λ w f. f)
+takes-home : (r : Rules) (h : Held) (w : World) (c : ℕ) → FollowsWorld r h w → at_home w c (can_take c) ≡ can_take c (w.nodes 1)
+takes-home r h w c f =
+    tested-home r h w c (can_take c) f (λ e. ap (λ b. b && not (has_job (seat c (w.nodes 1))) && not (is_empty (waiting (seat c (w.nodes 1))))) (dead-unopened c (w.nodes 1) e))
 
-  -- the seat for which room was made, and that the plan's change can be made of it
-  pub record Prepared (c : ℕ) (plan : Plan) (mid : Numbers) : Type 0 where
-    pub seated : Seated
-    pub found : opened_at c mid ≡ Some (kept.Live seated)
-    pub can : CanFinish plan.change seated
+live-taken : (c : ℕ) (steps : List Step) → can_take c steps ≡ true → is_live c steps ≡ true
+live-taken c steps e = by-test (is_live c steps) (has_job (seat c steps)) (is_empty (waiting (seat c steps))) refl e
+  where
+    by-test : (a b d : Bool) → is_live c steps ≡ a → (a && not b && not d) ≡ true → is_live c steps ≡ true
+    by-test true b d is h = is
+    by-test false b d is h = absurd cc
 
-  pub prepared : (h : Held) (w : World) (c : ℕ) (s : Seated) (q : Placed) (plan : Plan) (mid : Numbers) → FollowsWorld r h w → opened_at c h.entries ≡ Some (kept.Live s) → s.job ≡ Some q
-      → plan ≡ plan_of_piece r.callbacks s q.piece → Moves c (Lives (Prepares plan.change)) h.entries mid → Prepared c plan mid
-  prepared h w c s q plan mid f at out is m =
-      let l = live (Prepares plan.change) c h.entries mid m in
-      let same : l.old_seat ≡ s = some-live l.old_seat s (sym l.found ∙ at) in
-      let x : Seated = record s { reserved = Some plan.change } in
-      let new_is : l.new_seat ≡ x = l.moved_by.now ∙ ap (λ (y : Seated). let z : Seated = record y { reserved = Some plan.change } in z) same in
-      let found : opened_at c mid ≡ Some (kept.Live l.new_seat) = ap (opened_at c) l.now ∙ found-there c (kept.Live l.new_seat) (kept.Live l.old_seat) h.entries l.found in
-      let seated = ((prepares plan.change c (w.nodes 1) h.entries mid f.seats m).each c (kept.Live l.new_seat) found).0 in
-      let seated_x : SeatOf c (w.nodes 1) x = subst (SeatOf c (w.nodes 1)) new_is seated in
-      let pl = worked r h w f c s.user seated_x.user in
-      let few : s.made + makes plan.change < 2 ^ 64 - 1 = subst (λ (y : Seated). y.made + makes plan.change < 2 ^ 64 - 1) new_is l.moved_by.numbers in
-      let can = finishable pl.0 r.callbacks c (w.nodes 1) x q pl.1 seated_x out (ap (λ (p : Plan). Some p.change) is) (subst (λ (p : Plan). s.made + makes p.change < 2 ^ 64 - 1) is few) in
-      record { seated = l.new_seat; found = found; can = subst (CanFinish plan.change) (sym new_is) (subst (λ (p : Plan). CanFinish p.change x) (sym is) can) }
+work-taken : (r : Callbacks) (c : ConnNo) (j : JobState) (n' : NodeState) (steps : List Step) (k : WorkState) → IsNodeOf n' steps → j.conn ≡ c → IsJob j n' → k ≡ work_of r j → IsWorkOf r c.0 steps k
+work-taken r c j n' steps k is conn_is out work_is =
+    subst (IsWorkOf r c.0 steps) (sym work_is)
+    (subst (λ (x : ConnNo). IsWorkOf r x.0 steps (work_of r j)) conn_is
+    (record {
+      conn = refl;
+      node = ap (λ (x : NodeNo). x.0) out.node ∙ is.number;
+      place = out.place ∙ ap (λ (p : List Step). (seat j.conn.0 p).taken) is.journal;
+      task = ap (task_out j.conn.0) (sym is.journal) ∙ out.task;
+      plan = plan-out r j.conn.0 steps j.user j.task (ap (user_of j.conn.0) (sym is.journal) ∙ out.user) (ap (task_out j.conn.0) (sym is.journal) ∙ out.task);
+      puts = refl;
+    }))
 
-  pub finish_steps : (h h' : Held) (c : ConnNo) (s : Seated) (q : Placed) (plan : Plan) (mid : Numbers) (said : Said) → opened_at c.0 h.entries ≡ Some (kept.Live s) → s.job ≡ Some q
-      → plan ≡ plan_of_piece r.callbacks s q.piece → h'.booted ≡ h.booted → h'.table ≡ h.table → Moves c.0 (Lives (Prepares plan.change)) h.entries mid → Moves c.0 (Finished plan.change) mid h'.entries
-      → said ≡ record { idle = false; lines = plan_lines c.0 plan } → StepsAs r (event.Finish c) h said h'
-  finish_steps h h' c s q plan mid said at out is b' t' m e said_is =
-      possible_steps r (event.Finish c) h h' said (λ w f. sym (finishes-at h w c.0 f) ∙ (ap (λ o. has_job_in (seat_in o)) at ∙ ap is_some out)) (ap (λ (x : Said). x.idle) said_is)
-      (λ w f. ap (λ (x : Said). x.lines) said_is
-      ∙ sym (ap (λ n. finish_lines c.0 (job_plan r.callbacks c.0 (w.nodes n))) (home-is w c.0 (home-some r h w c.0 (kept.Live s) f at)) ∙ ap (finish_lines c.0) (plan-is w f)))
-      (λ w f may. comes r h h' w (with_puts (logged w 1 (Step.Finish c.0 (w.puts c.0) plan)) c.0 []) (event.Finish c) f may
-      (ap (λ n. finish w n c.0 (job_plan r.callbacks c.0 (w.nodes n))) (home-is w c.0 (home-some r h w c.0 (kept.Live s) f at)) ∙ ap (finish w 1 c.0) (plan-is w f))
-      (with-none h' w (logged w 1 (Step.Finish c.0 (w.puts c.0) plan)) c.0 f.puts refl
-      (one-entry r h h' w c.0 s (Step.Finish c.0 (w.puts c.0) plan) f at b' t' refl f.turnless
-      (let p = prepared h w c.0 s q plan mid f at out is m in
-      finishes r.callbacks c.0 (w.puts c.0) plan (w.nodes 1) mid h'.entries (worked r h w f) (prepares plan.change c.0 (w.nodes 1) h.entries mid f.seats m) (plan-is w f)
-      (λ t found. subst (CanFinish plan.change) (some-live p.seated t (sym p.found ∙ found)) p.can) e))))
-    where
-      plan-is : (w : World) → FollowsWorld r h w → job_plan r.callbacks c.0 (w.nodes 1) ≡ Some plan
-      plan-is w f =
-          planned-at h w c.0 s f (f.seats.each c.0 (kept.Live s) at) ∙ ap (option_map (λ (x : Placed). plan_of_piece r.callbacks s x.piece)) out ∙ ap (λ (p : Plan). Some p) (sym is)
+keeps-take : (c d : ℕ) → (c == d) ≡ false → keeps_job d (Step.Take c) ≡ true
+keeps-take c d e = ap not e
+
+pub take_steps : (r : Rules) (h h' : Held) (c : ConnNo) (n n' : NodeState) (j : JobState) (k : OutWork) → h.node ≡ Some n → h'.node ≡ Some n'
+    → ((d : ℕ) → work_at d h'.works ≡ cond (is_at (nat_cmp c.0) d) (Some k) (work_at d h.works)) → IsStrictlySortedBy nat_cmp (keys_of h'.works) → h'.turn ≡ h.turn → h'.table ≡ h.table → n'.no ≡ n.no
+    → can_take c.0 (past n) ≡ true → past n' ≡ Step.Take c.0 ∷ past n → j.conn ≡ c → IsJob j n' → k.work ≡ work_of r.callbacks j → TakesNone n n' → StepsAs r (event.Take c) h silent_said h'
+take_steps r h h' c n n' j k at now found rising turn table same_no may_take grown conn_is out work_is takes =
+    possible_steps r (event.Take c) h h' silent_said (λ w f. takes-home r h w c.0 f ∙ can w f) refl (λ w f. refl)
+    (λ w f may. comes r h h' w (with_puts (logged w 1 (Step.Take c.0)) c.0 []) (event.Take c) f may
+    (ap (λ m. with_puts (logged w m (Step.Take c.0)) c.0 []) (home-live r h w c.0 f (live-taken c.0 (w.nodes 1) (can w f))))
+    (record {
+      node = subst (λ o. IsNode o (Step.Take c.0 ∷ w.nodes 1)) (sym now) (node-now w f);
+      home = f.home;
+      rising = rising;
+      works = works-now r h w c.0 (Step.Take c.0) (Some k) h'.works f (keeps-take c.0) found (work-taken r.callbacks c j n' (Step.Take c.0 ∷ w.nodes 1) k.work (node-now w f) conn_is out work_is);
+      puts = no-puts w c.0 f.puts;
+      turn = subst (IsTurnIn r (with_puts (logged w 1 (Step.Take c.0)) c.0 [])) (sym turn)
+          (turn-stays r w (with_puts (logged w 1 (Step.Take c.0)) c.0 []) h.turn (record { out = refl; last = refl; low = refl; asked = refl; note_is = refl }) f.turn);
+      table = subst (λ (t : TableState MemRows). IsTableOf t w.table w.failing) (sym table) f.table;
+    }))
+  where
+    can : (w : World) → FollowsWorld r h w → can_take c.0 (w.nodes 1) ≡ true
+    can w f = ap (can_take c.0) (sym (node-of r h w n f at).journal) ∙ may_take
+
+    node-now : (w : World) → FollowsWorld r h w → IsNodeOf n' (Step.Take c.0 ∷ w.nodes 1)
+    node-now w f = entered n n' (Step.Take c.0) (w.nodes 1) same_no grown takes (λ d. refl) (node-of r h w n f at)
+
+-- ---- a finish
+
+-- without a work no job is out
+pub finish_idle : (r : Rules) (h h' : Held) (c : ConnNo) → work_at c.0 h.works ≡ None → h'.node ≡ h.node → h'.works ≡ h.works → h'.turn ≡ h.turn → h'.table ≡ h.table → StepsAs r (event.Finish c) h idle_said h'
+finish_idle r h h' c none node works turn table =
+    idle_steps r (event.Finish c) h h' (λ w f. tested-home r h w c.0 (can_finish r.callbacks c.0 (w.puts c.0)) f (λ e. not-done w f) ∙ not-done w f)
+    (λ w f. follows-same r h h' w f (subst (λ o. IsNode o (w.nodes 1)) (sym node) f.node) works turn table)
+  where
+    not-done : (w : World) → FollowsWorld r h w → can_finish r.callbacks c.0 (w.puts c.0) (w.nodes 1) ≡ false
+    not-done w f =
+        let idle : has_job (seat c.0 (w.nodes 1)) ≡ false = subst (IsWorkAt r.callbacks c.0 (w.nodes 1)) none (f.works c.0) in
+        ap (has_no_cast_left (w.puts c.0)) (ap (λ b. cond b (planned r.callbacks (user_of c.0 (w.nodes 1)) (seat c.0 (w.nodes 1)).conn (job (seat c.0 (w.nodes 1)))) None) idle)
+
+pub work-of : (r : Rules) (h : Held) (w : World) (c : ℕ) (k : OutWork) → FollowsWorld r h w → work_at c h.works ≡ Some k → IsWorkOf r.callbacks c (w.nodes 1) k.work
+work-of r h w c k f at = subst (IsWorkAt r.callbacks c (w.nodes 1)) at (f.works c)
+
+number-is : (a b : NodeNo) → a.0 ≡ b.0 → a ≡ b
+number-is a b e = ap (λ n. let x : NodeNo = record { 0 = n } in x) e
+
+-- the work can be finished
+pub fits-now : (r : Rules) → NoCasts r.callbacks → (h : Held) → FollowsSome r h → (c : ℕ) (n : NodeState) (k : OutWork) → h.node ≡ Some n → work_at c h.works ≡ Some k → Fits k.work n
+fits-now r plain h stands c n k at found =
+    let w = stands.0 in
+    let f = stands.1 in
+    let is = node-of r h w n f at in
+    let o = work-of r h w c k f found in
+    record {
+      out = record {
+        node = number-is k.work.node n.no (o.node ∙ sym is.number);
+        place = o.place ∙ ap (λ d. (seat d (w.nodes 1)).taken) (sym o.conn) ∙ ap (λ (p : List Step). (seat k.work.conn.0 p).taken) (sym is.journal);
+        task = ap (task_out k.work.conn.0) is.journal ∙ ap (λ d. task_out d (w.nodes 1)) o.conn ∙ o.task;
+      };
+      done = ap (λ (ids : List (Option RowId)). length ids) o.puts ∙ sym (ap (λ cs. length cs) (plan-casts r plain c (w.nodes 1) k.work.plan o.plan));
+    }
+
+-- a job that is finished isn't out
+none-out : (c : ℕ) (puts : List (Option RowId)) (plan : Plan) (steps : List Step) → has_job (seat c (Step.Finish c puts plan ∷ steps)) ≡ false
+none-out c puts plan steps =
+    let t : (c == c) ≡ true = grind (arith, nat_tests) in
+    let n : has_job (with_plan (seat c steps) plan) ≡ false = grind (arith, nat_tests) in
+    rw t n
+
+keeps-finish : (c d : ℕ) (puts : List (Option RowId)) (plan : Plan) → (c == d) ≡ false → keeps_job d (Step.Finish c puts plan) ≡ true
+keeps-finish c d puts plan e = ap not e
+
+-- what a Finish of c queues there
+told-there : (c : ℕ) (puts : List (Option RowId)) (plan : Plan) (steps : List Step) → queued c (Step.Finish c puts plan ∷ steps) ≡ queued c steps ++ plan_lines c plan
+told-there c puts plan steps = let t : (c == c) ≡ true = grind (arith, nat_tests) in rw t refl
+
+told-elsewhere : (c d : ℕ) (puts : List (Option RowId)) (plan : Plan) (steps : List Step) → (c == d) ≡ false → queued d (Step.Finish c puts plan ∷ steps) ≡ queued d steps
+told-elsewhere c d puts plan steps e = rw e refl
+
+-- the entry of a work
+entry-of : (c : ℕ) (r : Callbacks) (steps : List Step) (k : WorkState) (n m : NodeState) → IsWorkOf r c steps k → past m ≡ Step.Finish k.conn.0 k.puts k.plan ∷ past n → past m ≡ Step.Finish c [] k.plan ∷ past n
+entry-of c r steps k n m o grown = grown ∙ ap (λ d. Step.Finish d k.puts k.plan ∷ past n) o.conn ∙ ap (λ ids. Step.Finish c ids k.plan ∷ past n) o.puts
+
+pub finish-within : (r : Rules) (h : Held) → FollowsSome r h → (c : ℕ) (n m : NodeState) (k : OutWork) → h.node ≡ Some n → work_at c h.works ≡ Some k → past m ≡ Step.Finish k.work.conn.0 k.work.puts k.work.plan ∷ past n
+    → TakesNone n m → taken_out c m ≤ length (queued c (past m))
+finish-within r h stands c n m k at found grown takes =
+    let w = stands.0 in
+    let f = stands.1 in
+    taken-within n m (Step.Finish c [] k.work.plan) c (w.nodes 1) (plan_lines c k.work.plan) (entry-of c r.callbacks (w.nodes 1) k.work n m (work-of r h w c k f found) grown) takes
+    (told-there c [] k.work.plan (w.nodes 1)) (node-of r h w n f at)
+
+module _ (r : Rules) (plain : NoCasts r.callbacks) (h h' : Held) (c : ConnNo) (n m n' : NodeState) (k : OutWork) (s : Said) (at : h.node ≡ Some n) (found : work_at c.0 h.works ≡ Some k)
+    (grown : past m ≡ Step.Finish k.work.conn.0 k.work.puts k.work.plan ∷ past n) (takes : TakesNone n m) where
+  plan-is : (w : World) → FollowsWorld r h w → job_plan r.callbacks c.0 (w.nodes 1) ≡ Some k.work.plan
+  plan-is w f = (work-of r h w c.0 k f found).plan
+
+  finishes-home : (w : World) → FollowsWorld r h w → can_finish r.callbacks c.0 (w.puts c.0) (w.nodes 1) ≡ true
+  finishes-home w f =
+      ap (has_no_cast_left (w.puts c.0)) (plan-is w f)
+      ∙ ap (λ ids. not (ltb (length ids) (length k.work.plan.casts))) (f.puts c.0)
+      ∙ ap (λ cs. not (ltb 0 (length cs))) (plan-casts r plain c.0 (w.nodes 1) k.work.plan (plan-is w f))
+
+  known : (w : World) → FollowsWorld r h w → is_opened c.0 (w.nodes 1) ≡ false → ⊥
+  known w f e = let none = no-plan r.callbacks c.0 (w.nodes 1) (unopened-user c.0 (w.nodes 1) e) in let some = plan-is w f in cc (none, some)
+
+  grown-now : (w : World) → FollowsWorld r h w → past m ≡ Step.Finish c.0 [] k.work.plan ∷ past n
+  grown-now w f = entry-of c.0 r.callbacks (w.nodes 1) k.work n m (work-of r h w c.0 k f found) grown
+
+  finish-world : (w : World) → FollowsWorld r h w → finish w (home_of w c.0) c.0 (job_plan r.callbacks c.0 (w.nodes (home_of w c.0))) ≡ with_puts (logged w 1 (Step.Finish c.0 [] k.work.plan)) c.0 []
+  finish-world w f =
+      ap (λ x. finish w x c.0 (job_plan r.callbacks c.0 (w.nodes x))) (home-one r h w c.0 f (known w f))
+      ∙ ap (finish w 1 c.0) (plan-is w f)
+      ∙ ap (λ ids. with_puts (logged w 1 (Step.Finish c.0 ids k.work.plan)) c.0 []) (f.puts c.0)
+
+  finish-lines : (w : World) → FollowsWorld r h w → left_on m c.0 ≡ finish_lines c.0 (job_plan r.callbacks c.0 (w.nodes (home_of w c.0)))
+  finish-lines w f =
+      left-lines n m (Step.Finish c.0 [] k.work.plan) c.0 (w.nodes 1) (plan_lines c.0 k.work.plan) (grown-now w f) takes (told-there c.0 [] k.work.plan (w.nodes 1)) (node-of r h w n f at)
+      ∙ sym (ap (λ x. finish_lines c.0 (job_plan r.callbacks c.0 (w.nodes x))) (home-one r h w c.0 f (known w f)) ∙ ap (finish_lines c.0) (plan-is w f))
+
+  pub finish_steps : h'.node ≡ Some n' → ((d : ℕ) → work_at d h'.works ≡ cond (is_at (nat_cmp c.0) d) None (work_at d h.works)) → IsStrictlySortedBy nat_cmp (keys_of h'.works) → h'.turn ≡ h.turn → h'.table ≡ h.table
+      → m.no ≡ n.no → n'.kept ≡ m.kept → n'.no ≡ m.no → taken_out c.0 n' ≡ length (queued c.0 (past m)) → ((d : ℕ) → (d == c.0) ≡ false → taken_out d n' ≡ taken_out d m)
+      → s ≡ record { idle = false; lines = left_on m c.0 } → StepsAs r (event.Finish c) h s h'
+  finish_steps now kept_works rising turn table same_no kept no_now taken others is =
+      possible_steps r (event.Finish c) h h' s (λ w f. tested-home r h w c.0 (can_finish r.callbacks c.0 (w.puts c.0)) f (λ e. absurd (known w f e)) ∙ finishes-home w f) (ap (λ (x : Said). x.idle) is)
+      (λ w f. ap (λ (x : Said). x.lines) is ∙ finish-lines w f)
+      (λ w f may. comes r h h' w (with_puts (logged w 1 (Step.Finish c.0 [] k.work.plan)) c.0 []) (event.Finish c) f may (finish-world w f)
+      (record {
+        node = subst (λ o. IsNode o (Step.Finish c.0 [] k.work.plan ∷ w.nodes 1)) (sym now)
+            (drained-entry n m n' (Step.Finish c.0 [] k.work.plan) c.0 (w.nodes 1) same_no (grown-now w f) takes kept no_now taken others (λ d e. told-elsewhere c.0 d [] k.work.plan (w.nodes 1) e) (node-of r h w n f at));
+        home = f.home;
+        rising = rising;
+        works = works-now r h w c.0 (Step.Finish c.0 [] k.work.plan) None h'.works f (λ d e. keeps-finish c.0 d [] k.work.plan e) kept_works (none-out c.0 [] k.work.plan (w.nodes 1));
+        puts = no-puts w c.0 f.puts;
+        turn = subst (IsTurnIn r (with_puts (logged w 1 (Step.Finish c.0 [] k.work.plan)) c.0 [])) (sym turn)
+            (turn-stays r w (with_puts (logged w 1 (Step.Finish c.0 [] k.work.plan)) c.0 []) h.turn (record { out = refl; last = refl; low = refl; asked = refl; note_is = refl }) f.turn);
+        table = subst (λ (t : TableState MemRows). IsTableOf t w.table w.failing) (sym table) f.table;
+      }))

@@ -1,4 +1,4 @@
--- A session's table begins as the model's does, and its casts, trims and faults are the model's.
+-- Casts, trims and faults of a session's table are the model's.
 use Rattle.std.proofs.Common.{◌≡◌, ℕ, suc, ◌+◌, ◌==◌, ◌||◌, Bool, true, false, cond, List, [], ◌∷◌, ◌++◌, length, Option, Some, None, Result, Ok, Err, refl, sym, ap, subst, ◌∙◌, add-one}
 use Rattle.std.specs.List.{list_any}
 use Rattle.std.proofs.lemmas.Option.{same_Some}
@@ -8,43 +8,25 @@ use Rattle.cable_base.specs.declared.numbers.RowId.{RowId}
 use Rattle.cable_base.specs.declared.rows.Row.{Row}
 use Rattle.cable_model.specs.declared.events.Event.{Event}
 use Rattle.cable_model.specs.declared.events.Event.TheVariants as event
+use Rattle.cable_model.specs.declared.journals.ReadNote.{ReadNote}
 use Rattle.cable_model.specs.declared.lines.Line.TheVariants as line
 use Rattle.cable_model.specs.Journal.{offer_in}
-use Rattle.cable_model.specs.Table.{TableStep, last_id, oldest, present, row_with}
-use Rattle.cable_model.specs.History.{Rules, World, start, stored, with_fault, new_id, trim_count, is_possible, happened}
+use Rattle.cable_model.specs.Possible.{is_out, last_turn}
+use Rattle.cable_model.specs.Table.{TableStep, last_id, oldest, present, read_of, row_with}
+use Rattle.cable_model.specs.History.{Rules, World, stored, with_fault, new_id, trim_count, is_possible, happened}
 use Rattle.cable_model.specs.Transcript.{lines_of, commit_lines, trim_lines}
-use Rattle.node_seats.specs.AreSeats.{AreSeats}
-use Rattle.node_seats.proofs.Counting.{none-yet}
 use Rattle.table_core.specs.declared.faults.StoreFault.{StoreFault}
 use Rattle.table_core.specs.declared.faults.StoreFault.TheVariants as store_fault
 use Rattle.table_core.specs.Keepers.{CallsOnce, KeeperFailures, after_keeper_call, is_refused, without}
-use Rattle.table_core.specs.Memory.{MemRows, mem_rows, told_to_fail}
+use Rattle.table_core.specs.Memory.{MemRows, told_to_fail}
 use Rattle.table_core.specs.Shown.{Shows}
 use Rattle.table_core.specs.Tables.{TableState}
 use Rattle.table_core.proofs.Callers.{commit-shows, trim-shows}
 use Rattle.table_core.proofs.Following.{refusals_follow}
+use Rattle.replay_cli.specs.declared.outstanding.TurnOut.{TurnOut}
 use Rattle.replay_cli.specs.declared.saying.Said.{Said}
-use Rattle.replay_cli.specs.Sessions.{Held, IsTableOf, FollowsWorld, StepsAs, silent_said, refused_said}
-use Rattle.replay_cli.proofs.Following.{possible_steps, comes}
-
--- ---- the beginning
-
--- nothing has happened
-pub begins : (r : Rules) (h : Held) → h.booted ≡ false → h.entries ≡ [] → h.table.keeper.rows ≡ [] → h.table.last.0 ≡ 0 → h.table.keeper.failures ≡ after_keeper_call (mem_rows [] []).failures → FollowsWorld r h start
-begins r h b none no_rows no_last fs = record {
-  events = [];
-  ran = refl;
-  booted = b;
-  seats = subst (AreSeats []) (sym none) none-yet;
-  home = λ c. refl;
-  puts = λ c. refl;
-  turnless = tt;
-  table = record {
-    shows = record { rows_are = no_rows; last_is = no_last };
-    unplanned = ap (λ (f : KeeperFailures). f.planned.planned) fs;
-    failing_is = ap (λ (f : KeeperFailures). f.next) fs;
-  };
-}
+use Rattle.replay_cli.specs.Sessions.{Held, IsTableOf, IsTurnIn, FollowsWorld, StepsAs, silent_said, refused_said}
+use Rattle.replay_cli.proofs.Following.{SameTurn, turn-stays, possible_steps, comes}
 
 -- ---- a call of the keeper
 
@@ -79,30 +61,51 @@ asked-for f e = ap (λ (ns : List ℕ). list_any (λ x. x == next_count f.planne
 
 -- ---- a store event
 
-module _ (r : Rules) (h h' : Held) (failed : Bool) (call : Calls h.table.keeper.failures h'.table.keeper.failures failed) where
+-- what a session holds with another table
+abbrev pub with-table : Held → TableState MemRows → Held
+with-table h t = record { node = h.node; works = h.works; turn = h.turn; table = t }
+
+-- .. and with another turn
+abbrev pub with-turn : Held → TurnOut → TableState MemRows → Held
+with-turn h turn t = record { node = h.node; works = h.works; turn = turn; table = t }
+
+-- an entry of the table that is no Read of node 1, and a fault, leave the turn
+pub table-turn : (w : World) (table : List TableStep) (failing : Bool) → ((n : ℕ) → read_of 1 n table ≡ read_of 1 n w.table)
+    → SameTurn w (record { table = table; nodes = w.nodes; home = w.home; puts = w.puts; failing = failing })
+table-turn w table failing same = record {
+  out = refl;
+  last = refl;
+  low = refl;
+  asked = refl;
+  note_is = ap (λ (o : Option ReadNote). cond (is_out (w.nodes 1)) o None) (same (last_turn (w.nodes 1)));
+}
+
+module _ (r : Rules) (h : Held) (turn : TurnOut) (t : TableState MemRows) (failed : Bool) (call : Calls h.table.keeper.failures t.keeper.failures failed) where
   -- the store event fails where the call did
-  failing-is : (w : World) → FollowsWorld r h w → w.failing ≡ failed
+  pub failing-is : (w : World) → FollowsWorld r h w → w.failing ≡ failed
   failing-is w f = sym f.table.failing_is ∙ sym (asked-for h.table.keeper.failures f.table.unplanned) ∙ call.fails
 
-  table-behind : (w : World) (entry : TableStep) → FollowsWorld r h w → Shows h'.table.keeper.rows h'.table.last.0 (entry ∷ w.table) → IsTableOf h'.table (entry ∷ w.table) false
+  table-behind : (w : World) (entry : TableStep) → FollowsWorld r h w → Shows t.keeper.rows t.last.0 (entry ∷ w.table) → IsTableOf t (entry ∷ w.table) false
   table-behind w entry f shows = record {
     shows = shows;
     unplanned = ap (λ (x : KeeperFailures). x.planned.planned) call.behind ∙ f.table.unplanned;
     failing_is = ap (λ (x : KeeperFailures). x.next) call.behind;
   }
 
-  store-steps : (e : Event) (s : Said) (entry : World → TableStep) → h'.booted ≡ h.booted → h'.entries ≡ h.entries → ((w : World) → is_possible r w e ≡ true) → ((w : World) → happened r w e ≡ stored w (entry w))
+  pub store-steps : (e : Event) (s : Said) (entry : World → TableStep) → ((w : World) → FollowsWorld r h w → is_possible r w e ≡ true) → ((w : World) → happened r w e ≡ stored w (entry w))
       → s.idle ≡ false → ((w : World) → FollowsWorld r h w → w.failing ≡ failed → s.lines ≡ lines_of r w e)
-      → ((w : World) → FollowsWorld r h w → w.failing ≡ failed → Shows h'.table.keeper.rows h'.table.last.0 (entry w ∷ w.table)) → StepsAs r e h s h'
-  store-steps e s entry b' e' always is busy lines shows =
-      possible_steps r e h h' s (λ w f. always w) busy (λ w f. lines w f (failing-is w f))
-      (λ w f may. comes r h h' w (stored w (entry w)) e f may (is w)
+      → ((w : World) → FollowsWorld r h w → w.failing ≡ failed → IsTurnIn r (stored w (entry w)) turn)
+      → ((w : World) → FollowsWorld r h w → w.failing ≡ failed → Shows t.keeper.rows t.last.0 (entry w ∷ w.table)) → StepsAs r e h s (with-turn h turn t)
+  store-steps e s entry always is busy lines turns shows =
+      possible_steps r e h (with-turn h turn t) s always busy (λ w f. lines w f (failing-is w f))
+      (λ w f may. comes r h (with-turn h turn t) w (stored w (entry w)) e f may (is w)
       (record {
-        booted = b' ∙ f.booted;
-        seats = subst (AreSeats (w.nodes 1)) (sym e') f.seats;
+        node = f.node;
         home = f.home;
+        rising = f.rising;
+        works = f.works;
         puts = f.puts;
-        turnless = f.turnless;
+        turn = turns w f (failing-is w f);
         table = table-behind w (entry w) f (shows w f (failing-is w f));
       }))
 
@@ -116,28 +119,30 @@ new-id w last id calm last_is next =
 no-id : (w : World) → w.failing ≡ true → new_id w ≡ None
 no-id w e = ap (λ b. cond b None (Some (suc (last_id w.table)))) e
 
-pub cast_steps : (r : Rules) (h h' : Held) (at : Millis) (channel payload : List ℕ) (id : RowId) (s : Said) → h'.booted ≡ h.booted → h'.entries ≡ h.entries → id.0 ≡ h.table.last.0 + 1 → h'.table.last ≡ id
-    → Some h'.table.keeper.rows ≡ Some (h.table.keeper.rows ++ row_with id.0 (offer_in channel payload at.0) ∷ []) → Calls h.table.keeper.failures h'.table.keeper.failures false
-    → s ≡ record { idle = false; lines = line.Row id ∷ [] } → StepsAs r (event.Cast at channel payload) h s h'
-cast_steps r h h' at channel payload id s b' e' next last_is rows call is =
-    store-steps r h h' false call (event.Cast at channel payload) s (λ w. TableStep.Commit None (offer_in channel payload at.0) (new_id w)) b' e' (λ w. refl) (λ w. refl)
+pub cast_steps : (r : Rules) (h : Held) (t : TableState MemRows) (at : Millis) (channel payload : List ℕ) (id : RowId) (s : Said) → id.0 ≡ h.table.last.0 + 1 → t.last ≡ id
+    → Some t.keeper.rows ≡ Some (h.table.keeper.rows ++ row_with id.0 (offer_in channel payload at.0) ∷ []) → Calls h.table.keeper.failures t.keeper.failures false
+    → s ≡ record { idle = false; lines = line.Row id ∷ [] } → StepsAs r (event.Cast at channel payload) h s (with-table h t)
+cast_steps r h t at channel payload id s next last_is rows call is =
+    store-steps r h h.turn t false call (event.Cast at channel payload) s (λ w. TableStep.Commit None (offer_in channel payload at.0) (new_id w)) (λ w f. refl) (λ w. refl)
     (ap (λ (x : Said). x.idle) is)
     (λ w f calm. ap (λ (x : Said). x.lines) is ∙ sym (ap (commit_lines None) (new-id w h.table.last.0 id calm f.table.shows.last_is next)))
-    (λ w f calm. subst (λ (o : Option ℕ). Shows h'.table.keeper.rows h'.table.last.0 (TableStep.Commit None (offer_in channel payload at.0) o ∷ w.table)) (sym (new-id w h.table.last.0 id calm f.table.shows.last_is next))
-    (commit-shows {E = Unit {0}} (Ok id) h.table.keeper.rows h'.table.keeper.rows h.table.last h'.table.last None (offer_in channel payload at.0) next last_is rows w.table f.table.shows))
+    (λ w f calm. turn-stays r w (stored w (TableStep.Commit None (offer_in channel payload at.0) (new_id w))) h.turn (table-turn w (TableStep.Commit None (offer_in channel payload at.0) (new_id w) ∷ w.table) false (λ n. refl)) f.turn)
+    (λ w f calm. subst (λ (o : Option ℕ). Shows t.keeper.rows t.last.0 (TableStep.Commit None (offer_in channel payload at.0) o ∷ w.table)) (sym (new-id w h.table.last.0 id calm f.table.shows.last_is next))
+    (commit-shows {E = Unit {0}} (Ok id) h.table.keeper.rows t.keeper.rows h.table.last t.last None (offer_in channel payload at.0) next last_is rows w.table f.table.shows))
 
 -- rows and a last id that a refused call left
 left-as : (rows rows' : List Row) (last last' : RowId) (past : List TableStep) → rows' ≡ rows → last' ≡ last → Shows rows last.0 past → Shows rows' last'.0 past
 left-as rows rows' last last' past same same_last shows =
     subst (λ (rs : List Row). Shows rs last'.0 past) (sym same) (subst (λ (i : RowId). Shows rows i.0 past) (sym same_last) shows)
 
-pub cast_refused : (r : Rules) (h h' : Held) (at : Millis) (channel payload : List ℕ) (s : Said) → h'.booted ≡ h.booted → h'.entries ≡ h.entries → h'.table.keeper.rows ≡ h.table.keeper.rows
-    → h'.table.last ≡ h.table.last → Calls h.table.keeper.failures h'.table.keeper.failures true → s ≡ refused_said → StepsAs r (event.Cast at channel payload) h s h'
-cast_refused r h h' at channel payload s b' e' same same_last call is =
-    store-steps r h h' true call (event.Cast at channel payload) s (λ w. TableStep.Commit None (offer_in channel payload at.0) (new_id w)) b' e' (λ w. refl) (λ w. refl)
+pub cast_refused : (r : Rules) (h : Held) (t : TableState MemRows) (at : Millis) (channel payload : List ℕ) (s : Said) → t.keeper.rows ≡ h.table.keeper.rows
+    → t.last ≡ h.table.last → Calls h.table.keeper.failures t.keeper.failures true → s ≡ refused_said → StepsAs r (event.Cast at channel payload) h s (with-table h t)
+cast_refused r h t at channel payload s same same_last call is =
+    store-steps r h h.turn t true call (event.Cast at channel payload) s (λ w. TableStep.Commit None (offer_in channel payload at.0) (new_id w)) (λ w f. refl) (λ w. refl)
     (ap (λ (x : Said). x.idle) is)
     (λ w f fails. ap (λ (x : Said). x.lines) is ∙ sym (ap (commit_lines None) (no-id w fails)))
-    (λ w f fails. left-as h.table.keeper.rows h'.table.keeper.rows h.table.last h'.table.last _ same same_last
+    (λ w f fails. turn-stays r w (stored w (TableStep.Commit None (offer_in channel payload at.0) (new_id w))) h.turn (table-turn w (TableStep.Commit None (offer_in channel payload at.0) (new_id w) ∷ w.table) false (λ n. refl)) f.turn)
+    (λ w f fails. left-as h.table.keeper.rows t.keeper.rows h.table.last t.last _ same same_last
     (subst (λ (o : Option ℕ). Shows h.table.keeper.rows h.table.last.0 (TableStep.Commit None (offer_in channel payload at.0) o ∷ w.table)) (sym (no-id w fails))
     ((refusals_follow h.table.keeper.rows h.table.last.0 w.table f.table.shows).commit None (offer_in channel payload at.0)).shows))
 
@@ -154,39 +159,41 @@ count-is now retention batch count w rows last calm s is =
 no-count : (now retention batch : ℕ) (w : World) → w.failing ≡ true → trim_count now retention batch w ≡ None
 no-count now retention batch w e = ap (λ b. cond b None (Some (length (oldest now retention batch (last_id w.table) (present w.table))))) e
 
-pub trim_steps : (r : Rules) (h h' : Held) (now retention : Millis) (batch count : ℕ) (s : Said) → h'.booted ≡ h.booted → h'.entries ≡ h.entries
-    → Some h'.table.keeper.rows ≡ Some (without (oldest now.0 retention.0 batch h.table.last.0 h.table.keeper.rows) h.table.keeper.rows)
-    → count ≡ length (oldest now.0 retention.0 batch h.table.last.0 h.table.keeper.rows) → h'.table.last ≡ h.table.last → Calls h.table.keeper.failures h'.table.keeper.failures false
-    → s ≡ record { idle = false; lines = line.Trimmed count ∷ [] } → StepsAs r (event.Trim now retention batch) h s h'
-trim_steps r h h' now retention batch count s b' e' rows counted same_last call is =
-    store-steps r h h' false call (event.Trim now retention batch) s (λ w. TableStep.Trim now.0 retention.0 batch (trim_count now.0 retention.0 batch w)) b' e' (λ w. refl) (λ w. refl)
+pub trim_steps : (r : Rules) (h : Held) (t : TableState MemRows) (now retention : Millis) (batch count : ℕ) (s : Said) → Some t.keeper.rows ≡ Some (without (oldest now.0 retention.0 batch h.table.last.0 h.table.keeper.rows) h.table.keeper.rows)
+    → count ≡ length (oldest now.0 retention.0 batch h.table.last.0 h.table.keeper.rows) → t.last ≡ h.table.last → Calls h.table.keeper.failures t.keeper.failures false
+    → s ≡ record { idle = false; lines = line.Trimmed count ∷ [] } → StepsAs r (event.Trim now retention batch) h s (with-table h t)
+trim_steps r h t now retention batch count s rows counted same_last call is =
+    store-steps r h h.turn t false call (event.Trim now retention batch) s (λ w. TableStep.Trim now.0 retention.0 batch (trim_count now.0 retention.0 batch w)) (λ w f. refl) (λ w. refl)
     (ap (λ (x : Said). x.idle) is)
     (λ w f calm. ap (λ (x : Said). x.lines) is ∙ sym (ap trim_lines (count-is now.0 retention.0 batch count w h.table.keeper.rows h.table.last.0 calm f.table.shows counted)))
-    (λ w f calm. subst (λ (o : Option ℕ). Shows h'.table.keeper.rows h'.table.last.0 (TableStep.Trim now.0 retention.0 batch o ∷ w.table))
+    (λ w f calm. turn-stays r w (stored w (TableStep.Trim now.0 retention.0 batch (trim_count now.0 retention.0 batch w))) h.turn (table-turn w (TableStep.Trim now.0 retention.0 batch (trim_count now.0 retention.0 batch w) ∷ w.table) false (λ n. refl)) f.turn)
+    (λ w f calm. subst (λ (o : Option ℕ). Shows t.keeper.rows t.last.0 (TableStep.Trim now.0 retention.0 batch o ∷ w.table))
     (sym (count-is now.0 retention.0 batch count w h.table.keeper.rows h.table.last.0 calm f.table.shows counted))
-    (trim-shows {E = Unit {0}} (Ok count) h.table.keeper.rows h'.table.keeper.rows h.table.last h'.table.last now.0 retention.0 batch rows counted same_last w.table f.table.shows))
+    (trim-shows {E = Unit {0}} (Ok count) h.table.keeper.rows t.keeper.rows h.table.last t.last now.0 retention.0 batch rows counted same_last w.table f.table.shows))
 
-pub trim_refused : (r : Rules) (h h' : Held) (now retention : Millis) (batch : ℕ) (s : Said) → h'.booted ≡ h.booted → h'.entries ≡ h.entries → h'.table.keeper.rows ≡ h.table.keeper.rows
-    → h'.table.last ≡ h.table.last → Calls h.table.keeper.failures h'.table.keeper.failures true → s ≡ refused_said → StepsAs r (event.Trim now retention batch) h s h'
-trim_refused r h h' now retention batch s b' e' same same_last call is =
-    store-steps r h h' true call (event.Trim now retention batch) s (λ w. TableStep.Trim now.0 retention.0 batch (trim_count now.0 retention.0 batch w)) b' e' (λ w. refl) (λ w. refl)
+pub trim_refused : (r : Rules) (h : Held) (t : TableState MemRows) (now retention : Millis) (batch : ℕ) (s : Said) → t.keeper.rows ≡ h.table.keeper.rows
+    → t.last ≡ h.table.last → Calls h.table.keeper.failures t.keeper.failures true → s ≡ refused_said → StepsAs r (event.Trim now retention batch) h s (with-table h t)
+trim_refused r h t now retention batch s same same_last call is =
+    store-steps r h h.turn t true call (event.Trim now retention batch) s (λ w. TableStep.Trim now.0 retention.0 batch (trim_count now.0 retention.0 batch w)) (λ w f. refl) (λ w. refl)
     (ap (λ (x : Said). x.idle) is)
     (λ w f fails. ap (λ (x : Said). x.lines) is ∙ sym (ap trim_lines (no-count now.0 retention.0 batch w fails)))
-    (λ w f fails. left-as h.table.keeper.rows h'.table.keeper.rows h.table.last h'.table.last _ same same_last
+    (λ w f fails. turn-stays r w (stored w (TableStep.Trim now.0 retention.0 batch (trim_count now.0 retention.0 batch w))) h.turn (table-turn w (TableStep.Trim now.0 retention.0 batch (trim_count now.0 retention.0 batch w) ∷ w.table) false (λ n. refl)) f.turn)
+    (λ w f fails. left-as h.table.keeper.rows t.keeper.rows h.table.last t.last _ same same_last
     (subst (λ (o : Option ℕ). Shows h.table.keeper.rows h.table.last.0 (TableStep.Trim now.0 retention.0 batch o ∷ w.table)) (sym (no-count now.0 retention.0 batch w fails))
     ((refusals_follow h.table.keeper.rows h.table.last.0 w.table f.table.shows).trim now.0 retention.0 batch).shows))
 
 -- ---- a fault
 
-pub fault_steps : (r : Rules) (h h' : Held) → h'.booted ≡ h.booted → h'.entries ≡ h.entries → h'.table ≡ record { keeper = told_to_fail h.table.keeper; last = h.table.last } → StepsAs r event.Fault h silent_said h'
-fault_steps r h h' b' e' told =
-    possible_steps r event.Fault h h' silent_said (λ w f. refl) refl (λ w f. refl)
-    (λ w f may. comes r h h' w (with_fault w) event.Fault f may refl
+pub fault_steps : (r : Rules) (h : Held) (t : TableState MemRows) → t ≡ record { keeper = told_to_fail h.table.keeper; last = h.table.last } → StepsAs r event.Fault h silent_said (with-table h t)
+fault_steps r h t told =
+    possible_steps r event.Fault h (with-table h t) silent_said (λ w f. refl) refl (λ w f. refl)
+    (λ w f may. comes r h (with-table h t) w (with_fault w) event.Fault f may refl
     (record {
-      booted = b' ∙ f.booted;
-      seats = subst (AreSeats (w.nodes 1)) (sym e') f.seats;
+      node = f.node;
       home = f.home;
+      rising = f.rising;
+      works = f.works;
       puts = f.puts;
-      turnless = f.turnless;
-      table = subst (λ (t : TableState MemRows). IsTableOf t w.table true) (sym told) (record { shows = f.table.shows; unplanned = f.table.unplanned; failing_is = refl });
+      turn = turn-stays r w (with_fault w) h.turn (table-turn w w.table true (λ n. refl)) f.turn;
+      table = subst (λ (x : TableState MemRows). IsTableOf x w.table true) (sym told) (record { shows = f.table.shows; unplanned = f.table.unplanned; failing_is = refl });
     }))

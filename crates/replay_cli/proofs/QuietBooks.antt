@@ -67,8 +67,7 @@ quiet_parts : (c : Channel) → is_quiet c ≡ true → Quiet c
 quiet_parts c e =
     let actions = and_parts _ _ e in
     let leave = and_parts _ _ actions.0 in
-    let enter = and_parts _ _ leave.0 in
-    record { enter = eqb-true _ 0 enter.1; leave = eqb-true _ 0 leave.1; actions = actions.1 }
+    record { enter = eqb-true _ 0 leave.0; leave = eqb-true _ 0 leave.1; actions = actions.1 }
 
 either : (b : Bool) (x y : Answer) → x.casts ≡ [] → y.casts ≡ [] → (cond b x y).casts ≡ []
 either true x y h g = h
@@ -107,9 +106,9 @@ by_action user payload answer d c quiet e = by_object (object_of payload) e
     found : (asked : Data) (o : Option Action) → action_among c.rules.actions asked ≡ o → (or_fault call_fault.UnknownAction o >>= λ action. Ok (reaction user d c payload action)) ≡ Ok answer → answer.casts ≡ []
     found asked None is f = absurd cc
     found asked (Some a) is f =
-        let parts = and_parts _ _ (and_parts _ _ (action_found c.rules.actions asked a is (quiet_parts c quiet).actions)).0 in
+        let none = action_found c.rules.actions asked a is (quiet_parts c quiet).actions in
         is_answer (reaction user d c payload a) answer f
-        (either (can_fill c.required d) (performance user d (squeezed payload) a) nothing (no_casts_to user d (squeezed payload) a.casts (eqb-true _ 0 parts.0)) refl)
+        (either (can_fill c.required d) (performance user d (squeezed payload) a) nothing (no_casts_to user d (squeezed payload) a.casts (eqb-true _ 0 none)) refl)
 
     by_object : (o : Option Data)
         → (or_fault call_fault.BadData o >>= λ asked. (or_fault call_fault.UnknownAction (action_among c.rules.actions asked) >>= λ action. Ok (reaction user d c payload action))) ≡ Ok answer → answer.casts ≡ []

@@ -1,4 +1,4 @@
--- Which scripts are built so far: one node that doesn't listen to its table, and books whose channels hold no streams and broadcast nothing.
+-- Which scripts are built so far: those of one node, with books whose channels broadcast nothing.
 use Rattle.std.specs.Prelude.{◌≡◌, ◌==◌, Bool, true, false, ◌&&◌, nat_le, List, length}
 use Rattle.std.specs.List.{list_all}
 use Rattle.channel_book.specs.declared.declarations.Action.{Action}
@@ -9,13 +9,13 @@ use Rattle.cable_model.specs.declared.events.Event.TheVariants.{Boot, Open, In, 
 use Rattle.cable_model.specs.declared.verbs.Verb.{Verb}
 use Rattle.cable_model.specs.declared.verbs.Verb.TheVariants.{One, Work, Poll}
 
--- an action that wants and stops no streams, and broadcasts nothing
+-- an action that broadcasts nothing
 abbrev pub is_quiet_action : Action → Bool
-is_quiet_action a = (length a.casts == 0) && (length a.streams == 0) && (length a.stops == 0)
+is_quiet_action a = length a.casts == 0
 
--- a channel without streams and broadcasts
+-- a channel that broadcasts nothing
 abbrev pub is_quiet : Channel → Bool
-is_quiet c = (length c.rules.streams == 0) && (length c.rules.enter == 0) && (length c.rules.leave == 0) && list_all is_quiet_action c.rules.actions
+is_quiet c = (length c.rules.enter == 0) && (length c.rules.leave == 0) && list_all is_quiet_action c.rules.actions
 
 abbrev pub is_built_book : Declared → Bool
 is_built_book book = list_all is_quiet book.channels
@@ -31,16 +31,16 @@ is_built_event (Put conn at) = false
 is_built_event (Finish conn) = true
 is_built_event (Cast at channel payload) = true
 is_built_event (Trim now retention batch) = true
-is_built_event (Ask node) = false
-is_built_event (Read node) = false
-is_built_event (Deliver node) = false
+is_built_event (Ask node) = node.0 == 1
+is_built_event (Read node) = node.0 == 1
+is_built_event (Deliver node) = node.0 == 1
 is_built_event (Beat node now) = node.0 == 1
 is_built_event Fault = true
 
 abbrev pub is_built_verb : Verb → Bool
 is_built_verb (One event) = is_built_event event
 is_built_verb (Work conn at puts) = nat_le puts 1000
-is_built_verb (Poll node) = false
+is_built_verb (Poll node) = node.0 == 1
 
 -- the book is built, and each line is
 pub record IsBuilt (book : Declared) (verbs : List Verb) : Type 0 where

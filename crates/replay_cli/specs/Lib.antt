@@ -7,3 +7,4 @@ pub mod Replay
 pub mod Running
 pub mod Scripts
 pub mod Sessions
+pub mod Draining

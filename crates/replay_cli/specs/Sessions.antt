@@ -1,47 +1,107 @@
 -- What a running session holds, and when it follows a history of the model.
-use Rattle.std.specs.Prelude.{◌≡◌, ⊤, ℕ, ◌&&◌, not, ltb, leb, length, filter, map, Bool, true, false, cond, List, [], ◌∷◌, Option, None, Some, is_some, Ok}
+use Rattle.std.specs.Prelude.{◌≡◌, ℕ, ℤ, length, Bool, true, false, cond, List, [], ◌∷◌, Option, None, Some, Ok}
+use Rattle.std.specs.BTreeMap.{is_at}
+use Rattle.std.specs.List.Sorted.{IsStrictlySortedBy}
+use Rattle.std.specs.Map.{lookup, keys_of}
+use Rattle.std.specs.Ordering.{nat_cmp}
 use Rattle.channel_book.specs.declared.answers.Answer.{Answer}
 use Rattle.cable_model.specs.declared.events.Event.{Event}
 use Rattle.cable_model.specs.declared.events.Event.TheVariants as event
 use Rattle.cable_model.specs.declared.lines.Line.TheVariants as line
 use Rattle.cable_model.specs.declared.notes.Note.TheVariants as note
-use Rattle.cable_model.specs.Limits.{most_connections, most_waiting}
 use Rattle.cable_model.specs.Plans.{Callbacks}
+use Rattle.cable_model.specs.Pieces.{seat}
 use Rattle.cable_model.specs.Steps.{Step}
-use Rattle.cable_model.specs.Possible.{is_opened, is_booted, is_command}
-use Rattle.cable_model.specs.Pieces.{Placed}
-use Rattle.cable_model.specs.Table.{TableStep}
-use Rattle.cable_model.specs.History.{Rules, World, start, is_idle, happen, run}
-use Rattle.cable_model.specs.Transcript.{said}
-use Rattle.conn_seat.specs.Seats.{Seated, Becomes, vacant}
-use Rattle.node_seats.specs.declared.opened.Opened.{Opened}
-use Rattle.node_seats.specs.declared.opened.Opened.TheVariants as kept
-use Rattle.node_seats.specs.Numbers.{Numbers, opened_at, seat_at, is_receiving_in, live_among, with_new}
-use Rattle.node_seats.specs.AreSeats.{AreSeats}
+use Rattle.cable_model.specs.Possible.{is_opened, is_booted, is_out, last_turn, has_job, job_plan}
+use Rattle.cable_model.specs.Table.{TableStep, contains}
+use Rattle.cable_model.specs.Wants.{lower}
+use Rattle.cable_model.specs.History.{Rules, World, start, is_idle, happen, run, caught, hashes_of}
+use Rattle.cable_model.specs.Transcript.{said, queued}
+use Rattle.node_core.specs.Jobs.{WorkState, task_out}
+use Rattle.node_core.specs.Nodes.{NodeState, past, taken_out}
+use Rattle.node_core.specs.Turned.{note_in}
+use Rattle.poll_turn.specs.Turns.{TurnState, CaughtState}
 use Rattle.table_core.specs.Memory.{MemRows}
 use Rattle.table_core.specs.Shown.{Shows}
 use Rattle.table_core.specs.Tables.{TableState, IsWithinLimits}
+use Rattle.replay_cli.specs.declared.outstanding.OutWork.{OutWork}
+use Rattle.replay_cli.specs.declared.outstanding.TurnOut.{TurnOut}
+use Rattle.replay_cli.specs.declared.outstanding.TurnOut.TheVariants as turn_out
 use Rattle.replay_cli.specs.declared.saying.Said.{Said}
 use Rattle.replay_cli.specs.declared.sessions.Session.{Session}
 
--- what a session holds: whether its node is booted, its connections by their numbers, and its table
+-- what a session holds: its node once it is booted, the work of each connection's job that is out, the turn that is out, and the table
 pub record Held : Type 0 where
-  pub booted : Bool
-  pub entries : Numbers
+  pub node : Option NodeState
+  pub works : List (ℕ × OutWork)
+  pub turn : TurnOut
   pub table : TableState MemRows
 
 abbrev pub held : Session → Held
-held s = record { booted = s.booted; entries = s.seats.entries; table = s.table }
+held s = record { node = s.node; works = s.works.entries; turn = s.turn; table = s.table }
 
--- no turn was delivered, so that no row was put on any connection
-abbrev pub IsTurnless : List Step → Type 0
-IsTurnless [] = ⊤
-IsTurnless (Step.Deliver turn note ∷ past) = ⊥
-IsTurnless (_ ∷ past) = IsTurnless past
+-- ---- the node
+
+-- a node of the number 1 with this journal, from which all that was queued was taken out
+pub record IsNodeOf (n : NodeState) (steps : List Step) : Type 0 where
+  pub number : n.no.0 ≡ 1
+  pub journal : past n ≡ steps
+  pub booted : is_booted steps ≡ true
+  pub drained : (c : ℕ) → taken_out c n ≡ length (queued c steps)
+
+-- there is no node before the Boot
+abbrev pub IsNode : Option NodeState → List Step → Type 0
+IsNode None steps = steps ≡ []
+IsNode (Some n) steps = IsNodeOf n steps
 
 -- each connection that was opened was opened on node 1
 abbrev pub home_on : ℕ → List Step → Option ℕ
 home_on c past = cond (is_opened c past) (Some 1) None
+
+-- ---- works
+
+-- the work is that of the job that is out on c, for which no commit was made
+pub record IsWorkOf (r : Callbacks) (c : ℕ) (steps : List Step) (k : WorkState) : Type 0 where
+  pub conn : k.conn.0 ≡ c
+  pub node : k.node.0 ≡ 1
+  pub place : k.place ≡ (seat c steps).taken
+  pub task : task_out c steps ≡ Some k.task
+  pub plan : job_plan r c steps ≡ Some k.plan
+  pub puts : k.puts ≡ []
+
+-- a work is kept exactly where a job is out
+abbrev pub IsWorkAt : Callbacks → ℕ → List Step → Option OutWork → Type 0
+IsWorkAt r c steps None = has_job (seat c steps) ≡ false
+IsWorkAt r c steps (Some k) = IsWorkOf r c steps k.work
+
+abbrev pub work_at : ℕ → List (ℕ × OutWork) → Option OutWork
+work_at c works = lookup (is_at (nat_cmp c)) works
+
+-- ---- the turn
+
+-- a turn that is out and not read
+pub record IsAskedIn (r : Rules) (w : World) (t : TurnState) : Type 0 where
+  pub out : is_out (w.nodes 1) ≡ true
+  pub unread : caught w 1 ≡ None
+  pub node : t.node.0 ≡ 1
+  pub number : t.number ≡ last_turn (w.nodes 1)
+  pub lower_is : t.lower.0 ≡ lower (w.nodes 1)
+  pub asks : (h : ℤ) → contains t.hashes h ≡ contains (hashes_of r.hash (w.nodes 1)) h
+
+-- one that is out and read
+pub record IsReadIn (w : World) (k : CaughtState) : Type 0 where
+  pub out : is_out (w.nodes 1) ≡ true
+  pub note : caught w 1 ≡ Some (note_in k)
+  pub node : k.node.0 ≡ 1
+  pub number : k.number ≡ last_turn (w.nodes 1)
+  pub lower_is : k.lower.0 ≡ lower (w.nodes 1)
+
+abbrev pub IsTurnIn : Rules → World → TurnOut → Type 0
+IsTurnIn r w turn_out.None = is_out (w.nodes 1) ≡ false
+IsTurnIn r w (turn_out.Asked t) = IsAskedIn r w t.turn
+IsTurnIn r w (turn_out.Read k) = IsReadIn w k.caught
+
+-- ---- the table
 
 -- a table that shows a journal, and whose next call fails where a fault waits
 pub record IsTableOf (t : TableState MemRows) (past : List TableStep) (failing : Bool) : Type 0 where
@@ -53,11 +113,12 @@ pub record IsTableOf (t : TableState MemRows) (past : List TableStep) (failing :
 pub record FollowsWorld (r : Rules) (h : Held) (w : World) : Type 0 where
   pub events : List Event
   pub ran : w ≡ run r start events
-  pub booted : h.booted ≡ is_booted (w.nodes 1)
-  pub seats : AreSeats (w.nodes 1) h.entries
+  pub node : IsNode h.node (w.nodes 1)
   pub home : (c : ℕ) → w.home c ≡ home_on c (w.nodes 1)
+  pub rising : IsStrictlySortedBy nat_cmp (keys_of h.works)
+  pub works : (c : ℕ) → IsWorkAt r.callbacks c (w.nodes 1) (work_at c h.works)
   pub puts : (c : ℕ) → w.puts c ≡ []
-  pub turnless : IsTurnless (w.nodes 1)
+  pub turn : IsTurnIn r w h.turn
   pub table : IsTableOf h.table w.table w.failing
 
 -- there is a history that it follows
@@ -77,44 +138,15 @@ silent_said = record { idle = false; lines = [] }
 abbrev pub refused_said : Said
 refused_said = record { idle = false; lines = line.Note None note.StoreRefused ∷ [] }
 
+-- a read says nothing, unless its turn was missed
+abbrev pub read_said : Bool → Said
+read_said missed = cond missed refused_said silent_said
+
 -- in each world that is followed, what was said is what the event says, and what came of it is followed
 pub record StepsAs (r : Rules) (e : Event) (old : Held) (said_is : Said) (new : Held) : Type 0 where
   pub idle : (w : World) → FollowsWorld r old w → said_is.idle ≡ is_idle r w e
   pub lines : (w : World) → FollowsWorld r old w → said_is.lines ≡ said r w e
   pub follows : (w : World) → FollowsWorld r old w → FollowsWorld r new (happen r w e)
-
--- a connection may be opened under this number
-abbrev pub may_open : Held → ℕ → Bool
-may_open h c = h.booted && not (is_some (opened_at c h.entries)) && ltb (live_among h.entries) most_connections
-
--- what an Open keeps of its number
-abbrev pub OpensAs : ℕ → Option (List ℕ) → Numbers → Numbers → Type 0
-OpensAs c None v new = new ≡ with_new c kept.Over v
-OpensAs c (Some user) v new = (s : Seated) × Becomes (vacant user) s × (new ≡ with_new c (kept.Live s) v)
-
-abbrev pub is_receiving_one : Option Opened → Bool
-is_receiving_one None = false
-is_receiving_one (Some o) = is_receiving_in o
-
--- the number is live and not closing
-abbrev pub receiving_at : ℕ → Numbers → Bool
-receiving_at c v = is_receiving_one (opened_at c v)
-
-abbrev pub is_busy_in : Option Seated → Bool
-is_busy_in None = false
-is_busy_in (Some s) = leb most_waiting (length (filter is_command (map (λ (p : Placed). p.piece) s.waiting)))
-
--- the number is live, and as many of its commands wait as may
-abbrev pub is_busy_at : ℕ → Numbers → Bool
-is_busy_at c v = is_busy_in (seat_at c v)
-
-abbrev pub has_job_in : Option Seated → Bool
-has_job_in None = false
-has_job_in (Some s) = is_some s.job
-
--- the number is live, and a job is out
-abbrev pub has_job_at : ℕ → Numbers → Bool
-has_job_at c v = has_job_in (seat_at c v)
 
 -- no answer has broadcasts
 pub record NoCasts (r : Callbacks) : Type 0 where
@@ -122,7 +154,7 @@ pub record NoCasts (r : Callbacks) : Type 0 where
   pub unsubscribed : (user identifier : List ℕ) (a : Answer) → r.unsubscribed user identifier ≡ Ok a → a.casts ≡ []
   pub perform : (user identifier payload : List ℕ) (a : Answer) → r.perform user identifier payload ≡ Ok a → a.casts ≡ []
 
--- the events that a session of this stage steps: those of node 1 but its turns, and those of the table within its limits
+-- the events that a session of this stage steps: those of node 1, and those of the table within its limits
 abbrev pub IsPlayed : Event → Type 0
 IsPlayed (event.Boot node) = node.0 ≡ 1
 IsPlayed (event.Open node conn token) = node.0 ≡ 1
@@ -134,8 +166,8 @@ IsPlayed (event.Put conn at) = Unit {0}
 IsPlayed (event.Finish conn) = Unit {0}
 IsPlayed (event.Cast at channel payload) = IsWithinLimits channel payload at.0
 IsPlayed (event.Trim now retention batch) = Unit {0}
-IsPlayed (event.Ask node) = ⊥
-IsPlayed (event.Read node) = ⊥
-IsPlayed (event.Deliver node) = ⊥
+IsPlayed (event.Ask node) = node.0 ≡ 1
+IsPlayed (event.Read node) = node.0 ≡ 1
+IsPlayed (event.Deliver node) = node.0 ≡ 1
 IsPlayed (event.Beat node now) = node.0 ≡ 1
 IsPlayed event.Fault = Unit {0}

@@ -1,10 +1,12 @@
 //! Replays a session script: reads it, steps its events, and writes the transcript.
 #![tactic(auto)]
 
+mod draining;
 mod inputs;
 mod laws;
 mod modes;
 mod outputs;
+mod outstanding;
 mod performing;
 mod printing;
 mod replays;

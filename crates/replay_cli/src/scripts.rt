@@ -85,13 +85,11 @@ fn line_text(line: &[u8]) -> Option<&str>
     }
 }
 
-/// An action that wants and stops no streams, and broadcasts nothing.
+/// An action that broadcasts nothing.
 fn is_quiet_action(action: &Action) -> bool
     ensures { result ≡ is_quiet_action action.now }
 {
     action.casts.as_slice().is_empty()
-        && action.streams.as_slice().is_empty()
-        && action.stops.as_slice().is_empty()
 }
 
 fn are_quiet(actions: &[Action]) -> bool
@@ -100,13 +98,12 @@ fn are_quiet(actions: &[Action]) -> bool
     actions.iter().all(is_quiet_action)
 }
 
-/// A channel without streams and broadcasts.
+/// A channel that broadcasts nothing.
 fn is_quiet(channel: &Channel) -> bool
     ensures { result ≡ is_quiet channel.now }
 {
     let rules = &channel.rules;
-    rules.streams.as_slice().is_empty()
-        && rules.enter.as_slice().is_empty()
+    rules.enter.as_slice().is_empty()
         && rules.leave.as_slice().is_empty()
         && are_quiet(rules.actions.as_slice())
 }
@@ -147,6 +144,9 @@ fn is_built_event(event: &Event) -> bool
         Event::Boot { node }
         | Event::Open { node, .. }
         | Event::Stop { node }
+        | Event::Ask { node }
+        | Event::Read { node }
+        | Event::Deliver { node }
         | Event::Beat { node, .. } => node.0 == 1,
         Event::In { .. }
         | Event::Drop { .. }
@@ -155,7 +155,7 @@ fn is_built_event(event: &Event) -> bool
         | Event::Cast { .. }
         | Event::Trim { .. }
         | Event::Fault => true,
-        Event::Put { .. } | Event::Ask { .. } | Event::Read { .. } | Event::Deliver { .. } => false,
+        Event::Put { .. } => false,
     }
 }
 
@@ -165,7 +165,7 @@ fn is_built(verb: &Verb) -> bool
     match verb {
         Verb::One { event } => is_built_event(event),
         Verb::Work { puts, .. } => *puts <= MOST_PUTS,
-        Verb::Poll { .. } => false,
+        Verb::Poll { node } => node.0 == 1,
     }
 }
 

@@ -1,60 +1,62 @@
-ghost use Rattle.std.specs.Prelude.{◌≡◌, ◌<◌, [], OnOk, true, IfOk, is_some, None, Some, option_map};
+ghost use Rattle.std.specs.Prelude.{◌≡◌, ◌<◌, ◌∷◌, true, IfOk, OnOk};
 ghost use Rattle.cable_model.specs.declared.events.Event.TheVariants as event;
-ghost use Rattle.cable_model.specs.Limits.{most_connections};
 ghost use Rattle.cable_model.specs.Script.{callbacks_of, rules_of};
 ghost use Rattle.cable_model.specs.History.{start};
-ghost use Rattle.cable_model.specs.Pieces.{Placed};
-ghost use Rattle.conn_seat.specs.Seats.{Seated};
-ghost use Rattle.conn_seat.specs.Seated.{plan_of_piece};
-ghost use Rattle.node_seats.specs.declared.opened.Opened.TheVariants as kept;
-ghost use Rattle.node_seats.specs.Numbers.{Rising, live_among, opened_at, seat_at};
+ghost use Rattle.cable_model.specs.Steps.{Step};
+ghost use Rattle.node_core.specs.Nodes.{past, TakesNone};
+ghost use Rattle.node_core.specs.Turned.{is_expected, note_in};
 ghost use Rattle.table_core.specs.Tables.{IsWithinLimits};
-ghost use Rattle.replay_cli.specs.Sessions.{held, StepsAs, FollowsWorld, FollowsSome, NoCasts, IsPlayed, OpensAs, may_open, receiving_at, is_busy_at, has_job_at};
+ghost use Rattle.replay_cli.specs.Sessions.{held, StepsAs, FollowsWorld, FollowsSome, IsPlayed, NoCasts};
 
-use crate::saying::{
-    Said, command_piece, greeting, idle, lines_of, noted, one_line, pings, silent, store_refused,
-};
-use cable_base::{ConnNo, Millis, NodeNo, OutOfMemory};
-use cable_model::{Event, Line, Note, Origin, Piece, Plan};
-use channel_book::{Book, Callbacks};
-use conn_core::plan;
-use node_seats::Seats;
+use crate::draining::{drain, drain_each};
+use crate::outstanding::{OutCaught, OutTurn, OutWork, TurnOut};
+use crate::saying::{Said, idle, noted, one_line, read_said, silent, store_refused};
+use cable_base::{ConnNo, Millis, NodeNo, OutOfMemory, Steps};
+use cable_model::{Event, Line, Note, Origin};
+use channel_book::Book;
+use node_core::{ArriveFault, Node, OpenFault};
+use poll_turn::Caught;
 use std::alloc::Global;
+use std::collections::BTreeMap;
+use std::marker::Brand;
+use std::sync::ledger::{Blank, Ledger};
 use table_core::{MemKeeper, StoreFault, Table};
 
 /// The node of a session.
 const NODE: NodeNo = NodeNo(1);
 
-/// The most bytes of a client's text.
-pub const MOST_TEXT: usize = 65_536;
-
-/// The most commands that wait on a connection.
-const MOST_WAITING: u64 = 256;
-
-/// A session of one node over a table in memory.
+/// A session of one node beside a table in memory.
 #[derive(Debug, Drop)]
 pub struct Session {
     pub book: Book,
-    pub booted: bool,
-    pub seats: Seats,
+    pub node: Option<Node>,
     pub table: Table<MemKeeper>,
+    /// The work of each connection's job that is out.
+    pub works: BTreeMap<u64, OutWork>,
+    pub turn: TurnOut,
 }
 
-/// Keeps the number: with a connection of the user, or as one that is over.
-fn keep(
-    seats: &mut Seats,
-    alloc: Global,
-    conn: ConnNo,
-    user: Option<&str>,
+/// Delivers what was caught, in a ledger of steps of its own.
+fn deliver_counted<L: Ledger>(
+    node: &mut Node,
+    caught: Caught,
+    blank: Blank,
 ) -> Result<(), OutOfMemory>
-    requires unused { opened_at conn.0 seats.old.entries ≡ None }
-    requires room { live_among seats.old.entries < most_connections }
-    ensures opens { OnOk result (OpensAs conn.0 (option_map (λ u. u.now) user.entry) seats.old.entries seats.new.entries) }
-    ensures rising { OnOk result (Rising seats.new.entries) }
+    requires name { blank.name ≡ L.name }
+    requires parts { blank.parts ≡ L.parts }
+    requires some { 0 < blank.parts }
+    requires expected { is_expected caught node.old ≡ true }
+    ensures no { node.new.no ≡ node.old.no }
+    ensures ok { OnOk result (past node.new ≡ Step.Deliver caught.number (note_in caught) ∷ past node.old) }
+    ensures taken { TakesNone node.old node.new }
 {
-    match user {
-        Some(user) => seats.open(alloc, conn, user),
-        None => seats.refuse(conn),
+    let mut steps = Steps::<L>::begin(blank);
+    match node.deliver(caught, &mut steps) {
+        Ok(()) => Ok(()),
+        Err(caught) => {
+            caught.give_up();
+            Err(OutOfMemory)
+        }
     }
 }
 
@@ -69,137 +71,100 @@ impl Session {
         };
         Ok(Session {
             book,
-            booted: false,
-            seats: Seats::empty(alloc),
+            node: None,
             table,
+            works: BTreeMap::new(alloc),
+            turn: TurnOut::None,
         })
-    }
-
-    fn may_open(&self, conn: ConnNo) -> bool
-        ensures { result ≡ may_open (held self.now) conn.0 }
-    {
-        self.booted && !self.seats.is_used(conn) && !self.seats.is_full()
-    }
-
-    fn is_live(&self, conn: ConnNo) -> bool
-        ensures { result ≡ is_some (seat_at conn.0 (held self.now).entries) }
-    {
-        self.seats.get(conn).is_some()
-    }
-
-    fn is_receiving(&self, conn: ConnNo) -> bool
-        ensures { result ≡ receiving_at conn.0 (held self.now).entries }
-    {
-        match self.seats.get(conn) {
-            Some(seat) => seat.is_receiving(),
-            None => false,
-        }
-    }
-
-    /// Whether as many commands wait on the connection as may.
-    fn is_busy(&self, conn: ConnNo) -> bool
-        ensures { result ≡ is_busy_at conn.0 (held self.now).entries }
-    {
-        match self.seats.get(conn) {
-            Some(seat) => seat.waiting_commands() >= MOST_WAITING,
-            None => false,
-        }
-    }
-
-    fn has_job(&self, conn: ConnNo) -> bool
-        ensures { result ≡ has_job_at conn.0 (held self.now).entries }
-    {
-        match self.seats.get(conn) {
-            Some(seat) => seat.has_job(),
-            None => false,
-        }
     }
 
     fn boot(&mut self, alloc: Global) -> Result<Said, OutOfMemory>
         ensures steps { IfOk result (λ s. StepsAs (rules_of self.old.book) (event.Boot (record { 0 = 1 })) (held self.old) s (held self.new)) }
         ensures book { self.new.book ≡ self.old.book }
     {
-        if self.booted {
+        if self.node.is_some() {
             return Ok(idle(alloc));
         }
-        self.table.boot(NODE)?;
-        self.booted = true;
+        let last = self.table.boot(NODE)?;
+        self.node = Some(Node::boot(alloc, NODE, last)?);
         Ok(silent(alloc))
     }
 
     fn open(&mut self, alloc: Global, conn: ConnNo, token: &str) -> Result<Said, OutOfMemory>
+        requires stands { FollowsSome (rules_of self.old.book) (held self.old) }
         ensures steps { IfOk result (λ s. StepsAs (rules_of self.old.book) (event.Open (record { 0 = 1 }) conn token.now) (held self.old) s (held self.new)) }
         ensures book { self.new.book ≡ self.old.book }
     {
-        if !self.may_open(conn) {
+        let Some(node) = &mut self.node else {
             return Ok(idle(alloc));
+        };
+        match node.open_conn(conn, token, &self.book) {
+            Ok(()) => drain(alloc, node, conn),
+            Err(OpenFault::Used) => Ok(idle(alloc)),
+            Err(OpenFault::Full) => Ok(idle(alloc)),
+            Err(OpenFault::OutOfMemory) => Err(OutOfMemory),
         }
-        let user = self.book.identify(token);
-        let text = greeting(alloc, user)?;
-        let said = one_line(alloc, Line::Text { conn, text })?;
-        keep(&mut self.seats, alloc, conn, user)?;
-        Ok(said)
+    }
+
+    fn arrive(&mut self, alloc: Global, conn: ConnNo, text: &str) -> Result<Said, OutOfMemory>
+        ensures steps { IfOk result (λ s. StepsAs (rules_of self.old.book) (event.In conn text.now) (held self.old) s (held self.new)) }
+        ensures book { self.new.book ≡ self.old.book }
+    {
+        let Some(node) = &mut self.node else {
+            return Ok(idle(alloc));
+        };
+        match node.arrive(conn, text) {
+            Ok(()) => Ok(silent(alloc)),
+            Err(ArriveFault::Unknown | ArriveFault::Shut) => Ok(idle(alloc)),
+            Err(ArriveFault::TooLong) => noted(alloc, conn, Note::TooLong),
+            Err(ArriveFault::Busy) => noted(alloc, conn, Note::Busy),
+            Err(ArriveFault::OutOfMemory) => Err(OutOfMemory),
+        }
     }
 
     fn leave(&mut self, alloc: Global, conn: ConnNo) -> Result<Said, OutOfMemory>
-        requires { FollowsSome (rules_of self.old.book) (held self.old) }
         ensures steps { IfOk result (λ s. StepsAs (rules_of self.old.book) (event.Drop conn) (held self.old) s (held self.new)) }
         ensures book { self.new.book ≡ self.old.book }
     {
-        if !self.is_receiving(conn) {
+        let Some(node) = &mut self.node else {
+            return Ok(idle(alloc));
+        };
+        if !node.gone(conn)? {
             return Ok(idle(alloc));
         }
-        self.seats.put(conn, Piece::Gone)?;
         Ok(silent(alloc))
     }
 
-    fn stop(&mut self, alloc: Global) -> Said
-        ensures steps { StepsAs (rules_of self.old.book) (event.Stop (record { 0 = 1 })) (held self.old) result (held self.new) }
+    fn stop(&mut self, alloc: Global) -> Result<Said, OutOfMemory>
+        ensures steps { IfOk result (λ s. StepsAs (rules_of self.old.book) (event.Stop (record { 0 = 1 })) (held self.old) s (held self.new)) }
         ensures book { self.new.book ≡ self.old.book }
     {
-        if !self.booted {
-            return idle(alloc);
-        }
-        self.seats.stop();
-        silent(alloc)
-    }
-
-    fn take(&mut self, alloc: Global, conn: ConnNo) -> Said
-        ensures steps { StepsAs (rules_of self.old.book) (event.Take conn) (held self.old) result (held self.new) }
-        ensures book { self.new.book ≡ self.old.book }
-    {
-        if !self.is_live(conn) {
-            return idle(alloc);
-        }
-        if !self.seats.take(conn) {
-            return idle(alloc);
-        }
-        silent(alloc)
-    }
-
-    fn beat(&mut self, alloc: Global, now: Millis) -> Result<Said, OutOfMemory>
-        ensures steps { IfOk result (λ s. StepsAs (rules_of self.old.book) (event.Beat (record { 0 = 1 }) now) (held self.old) s (held self.new)) }
-        ensures book { self.new.book ≡ self.old.book }
-    {
-        if !self.booted {
+        let Some(node) = &mut self.node else {
             return Ok(idle(alloc));
-        }
-        let conns = self.seats.receiving(alloc)?;
-        let lines = pings(alloc, &conns, now)?;
-        Ok(Said { idle: false, lines })
+        };
+        node.stop()?;
+        Ok(silent(alloc))
     }
 
-    /// The plan of the job that is out on the connection.
-    fn job_plan(&self, alloc: Global, conn: ConnNo) -> Result<Plan, OutOfMemory>
-        requires job { has_job_at conn.0 (held self.now).entries ≡ true }
-        requires stands { FollowsSome (rules_of self.now.book) (held self.now) }
-        ensures { (s : Seated) (q : Placed) → opened_at conn.0 (held self.now).entries ≡ Some (kept.Live s) → s.job ≡ Some q → IfOk result (λ p. p ≡ plan_of_piece (callbacks_of self.now.book) s q.piece) }
+    fn take(&mut self, alloc: Global, conn: ConnNo) -> Result<Said, OutOfMemory>
+        ensures steps { IfOk result (λ s. StepsAs (rules_of self.old.book) (event.Take conn) (held self.old) s (held self.new)) }
+        ensures book { self.new.book ≡ self.old.book }
     {
-        let Some(seat) = self.seats.get(conn) else {
-            unreachable!()
+        let Some(node) = &mut self.node else {
+            return Ok(idle(alloc));
         };
-        let task = seat.task()?;
-        plan(alloc, &task, seat.user(), &self.book)
+        let Some(job) = node.take(conn)? else {
+            return Ok(idle(alloc));
+        };
+        let work = match job.plan(&self.book) {
+            Ok(work) => work,
+            Err(job) => {
+                job.give_up();
+                return Err(OutOfMemory);
+            }
+        };
+        self.works.insert(conn.0, OutWork { work })?;
+        Ok(silent(alloc))
     }
 
     fn finish(&mut self, alloc: Global, conn: ConnNo) -> Result<Said, OutOfMemory>
@@ -208,32 +173,87 @@ impl Session {
         ensures steps { IfOk result (λ s. StepsAs (rules_of self.old.book) (event.Finish conn) (held self.old) s (held self.new)) }
         ensures book { self.new.book ≡ self.old.book }
     {
-        if !self.has_job(conn) {
+        let Some(node) = &mut self.node else {
             return Ok(idle(alloc));
+        };
+        let Some(out) = self.works.remove(&conn.0) else {
+            return Ok(idle(alloc));
+        };
+        match node.finish(out.into_work()) {
+            Ok(()) => drain(alloc, node, conn),
+            Err(work) => {
+                work.give_up();
+                Err(OutOfMemory)
+            }
         }
-        let plan = self.job_plan(alloc, conn)?;
-        let lines = lines_of(alloc, conn, &plan)?;
-        self.seats.reserve_plan(conn, &plan)?;
-        self.seats.finish(conn, &plan);
-        Ok(Said { idle: false, lines })
     }
 
-    fn arrive(&mut self, alloc: Global, conn: ConnNo, text: &str) -> Result<Said, OutOfMemory>
+    fn beat(&mut self, alloc: Global, now: Millis) -> Result<Said, OutOfMemory>
         requires stands { FollowsSome (rules_of self.old.book) (held self.old) }
-        ensures steps { IfOk result (λ s. StepsAs (rules_of self.old.book) (event.In conn text.now) (held self.old) s (held self.new)) }
+        ensures steps { IfOk result (λ s. StepsAs (rules_of self.old.book) (event.Beat (record { 0 = 1 }) now) (held self.old) s (held self.new)) }
         ensures book { self.new.book ≡ self.old.book }
     {
-        if !self.is_receiving(conn) {
+        let Some(node) = &mut self.node else {
             return Ok(idle(alloc));
-        }
-        if text.len() > MOST_TEXT {
-            return noted(alloc, conn, Note::TooLong);
-        }
-        if self.is_busy(conn) {
-            return noted(alloc, conn, Note::Busy);
-        }
-        let piece = command_piece(alloc, text)?;
-        self.seats.put(conn, piece)?;
+        };
+        let conns = node.receiving()?;
+        node.beat(now)?;
+        drain_each(alloc, node, &conns)
+    }
+
+    fn ask(&mut self, alloc: Global) -> Result<Said, OutOfMemory>
+        ensures steps { IfOk result (λ s. StepsAs (rules_of self.old.book) (event.Ask (record { 0 = 1 })) (held self.old) s (held self.new)) }
+        ensures book { self.new.book ≡ self.old.book }
+    {
+        let Some(node) = &mut self.node else {
+            return Ok(idle(alloc));
+        };
+        let Some(turn) = node.ask()? else {
+            return Ok(idle(alloc));
+        };
+        self.turn = TurnOut::Asked(OutTurn { turn });
+        Ok(silent(alloc))
+    }
+
+    fn read(&mut self, alloc: Global) -> Result<Said, OutOfMemory>
+        ensures steps { IfOk result (λ s. StepsAs (rules_of self.old.book) (event.Read (record { 0 = 1 })) (held self.old) s (held self.new)) }
+        ensures book { self.new.book ≡ self.old.book }
+    {
+        let out = match std::mem::replace(&mut self.turn, TurnOut::None) {
+            TurnOut::Asked(out) => out,
+            turn => {
+                self.turn = turn;
+                return Ok(idle(alloc));
+            }
+        };
+        let caught = match self.table.read(out.into_turn()) {
+            Ok(caught) => caught,
+            Err(turn) => {
+                turn.give_up();
+                return Err(OutOfMemory);
+            }
+        };
+        let missed = caught.is_missed();
+        self.turn = TurnOut::Read(OutCaught { caught });
+        read_said(alloc, missed)
+    }
+
+    fn deliver(&mut self, alloc: Global) -> Result<Said, OutOfMemory>
+        requires stands { FollowsSome (rules_of self.old.book) (held self.old) }
+        ensures steps { IfOk result (λ s. StepsAs (rules_of self.old.book) (event.Deliver (record { 0 = 1 })) (held self.old) s (held self.new)) }
+        ensures book { self.new.book ≡ self.old.book }
+    {
+        let Some(node) = &mut self.node else {
+            return Ok(idle(alloc));
+        };
+        let out = match std::mem::replace(&mut self.turn, TurnOut::None) {
+            TurnOut::Read(out) => out,
+            turn => {
+                self.turn = turn;
+                return Ok(idle(alloc));
+            }
+        };
+        deliver_counted::<Brand>(node, out.into_caught(), Blank::new(1))?;
         Ok(silent(alloc))
     }
 
@@ -298,10 +318,13 @@ impl Session {
             } => self.open(alloc, *conn, token.as_str()),
             Event::In { conn, text } => self.arrive(alloc, *conn, text.as_str()),
             Event::Drop { conn } => self.leave(alloc, *conn),
-            Event::Stop { node: _ } => Ok(self.stop(alloc)),
-            Event::Take { conn } => Ok(self.take(alloc, *conn)),
+            Event::Stop { node: _ } => self.stop(alloc),
+            Event::Take { conn } => self.take(alloc, *conn),
             Event::Put { conn: _, at: _ } => Ok(idle(alloc)),
             Event::Finish { conn } => self.finish(alloc, *conn),
+            Event::Ask { node: _ } => self.ask(alloc),
+            Event::Read { node: _ } => self.read(alloc),
+            Event::Deliver { node: _ } => self.deliver(alloc),
             Event::Beat { node: _, now } => self.beat(alloc, *now),
             Event::Cast {
                 at,
@@ -314,9 +337,6 @@ impl Session {
                 batch,
             } => self.trim(alloc, *now, *retention, *batch),
             Event::Fault => Ok(self.fault(alloc)),
-            Event::Ask { node: _ } | Event::Read { node: _ } | Event::Deliver { node: _ } => {
-                unreachable!()
-            }
         }
     }
 }

@@ -83,8 +83,10 @@ fn what_is_not_built_is_refused(rt: HostRuntime) -> Result<(), Fail> {
         "put 7 0\n",
         "stop 2\n",
         "beat 2 0\n",
-        "poll 1\n",
-        "ask 1\n",
+        "poll 2\n",
+        "ask 2\n",
+        "read 2\n",
+        "deliver 2\n",
     ] {
         let text = script(alloc, &[lines])?;
         let (status, silent) = replays(alloc, text.as_str(), 100, 0, 0, "")?;
@@ -96,9 +98,9 @@ fn what_is_not_built_is_refused(rt: HostRuntime) -> Result<(), Fail> {
         "cable-script 1\n",
         "cable-script 2\n",
         "cable-script 1\nbook {}\n",
-        "cable-script 1\nbook {\"channels\":[{\"name\":\"A\",\"streams\":[\"a\"]}]}\n",
+        "cable-script 1\nbook {\"channels\":[{\"name\":\"A\",\"enter\":[{\"to\":\"a\",\"payload\":\"1\"}]}]}\n",
         "cable-script 1\nbook {\"channels\":[{\"name\":\"A\",\"leave\":[{\"to\":\"a\",\"payload\":\"1\"}]}]}\n",
-        "cable-script 1\nbook {\"channels\":[{\"name\":\"A\",\"actions\":[{\"name\":\"b\",\"stops\":[\"a\"]}]}]}\n",
+        "cable-script 1\nbook {\"channels\":[{\"name\":\"A\",\"actions\":[{\"name\":\"b\",\"casts\":[\"a\"]}]}]}\n",
     ] {
         let (status, silent) = replays(alloc, text, 100, 0, 0, "")?;
         assert_eq!(rt; status, NOT_BUILT, "{text}");
@@ -240,6 +242,20 @@ fn sessions_step_each_event(rt: HostRuntime) -> Result<(), Fail> {
     let wanted =
         "7 {\"type\":\"welcome\"}\n8 {\"type\":\"disconnect\",\"reason\":\"unauthorized\",\"reconnect\":false}\n7 {\"type\":\"ping\",\"message\":5}\n7 ! unknown-command\n7 {\"type\":\"disconnect\",\"reason\":\"server_restart\",\"reconnect\":true}\nend events=12 idle=2\n";
     let (status, same) = replays_with(alloc, &[], text.as_str(), wanted)?;
+    assert_eq!(rt; status, Status::Ok);
+    assert!(rt; same);
+    Ok(())
+}
+
+#[test]
+fn polls_bring_what_was_cast(rt: HostRuntime) -> Result<(), Fail> {
+    let alloc = rt.alloc();
+    // The first poll has no name to ask for, and confirms. The second one is missed, so the third looks at the same rows.
+    let text =
+        "cable-script 1\nbook {\"tokens\":{\"t1\":\"alice\"},\"channels\":[{\"name\":\"Chat\",\"streams\":[\"room\"]}]}\nread 1\nboot 1\nopen 1 7 t1\nin 7 {\"command\":\"subscribe\",\"identifier\":\"{\\\"channel\\\":\\\"Chat\\\"}\"}\nwork 7 0 0\ncast 0 room 1\npoll 1\nwork 7 0 0\ncast 5 room {\"a\": 2}\ncast 5 hall 3\nfault\npoll 1\nask 1\nask 1\nread 1\nread 1\ndeliver 1\ndeliver 1\nwork 7 0 0\n";
+    let wanted =
+        "7 {\"type\":\"welcome\"}\n- row 1\n7 {\"identifier\":\"{\\\"channel\\\":\\\"Chat\\\"}\",\"type\":\"confirm_subscription\"}\n- row 2\n- row 3\n- ! store-refused\n7 {\"identifier\":\"{\\\"channel\\\":\\\"Chat\\\"}\",\"message\":{\"a\":2}}\nend events=26 idle=4\n";
+    let (status, same) = replays(alloc, text, 64, 0, 0, wanted)?;
     assert_eq!(rt; status, Status::Ok);
     assert!(rt; same);
     Ok(())

@@ -1,10 +1,10 @@
 -- The list of names, seen as a map: what a look-up, a write at a place, a removal and a push mean there.
-use Rattle.std.proofs.Common.{◌≡◌, ◌≢◌, ℕ, zero, suc, ◌+◌, ◌<◌, ◌≤◌, ◌==◌, cond, not, Bool, true, false, IsSome, IsNone, List, [], ◌∷◌, ◌++◌, length, map, get_or, set, take, drop, Option, Some, None, Result, Ok, Err, OnOk, OnErr, unwrap_or, is_some, inl, inr, refl, sym, ap, subst, ◌∙◌, arith}
+use Rattle.std.proofs.Common.{◌≡◌, ◌≢◌, ℕ, zero, suc, ◌+◌, ◌<◌, ◌≤◌, ◌==◌, cond, not, Bool, true, false, IsSome, IsNone, List, [], ◌∷◌, ◌++◌, length, get_or, set, take, drop, Option, Some, None, Result, Ok, Err, OnOk, OnErr, unwrap_or, is_some, inl, inr, refl, sym, ap, subst, ◌∙◌, arith}
 use Rattle.std.specs.List.{All, filter, position, position_from, list_any, remove as removed}
 use Rattle.std.specs.Str.{bytes_eq}
-use Rattle.std.specs.Ordering.{nat_cmp, eq_by_cmp, is_eq}
+use Rattle.std.specs.Ordering.{nat_cmp, eq_by_cmp}
 use Rattle.std.specs.Cmp.Lexicographic.{slice_cmp, nat_list_cmp_total}
-use Rattle.std.specs.FinMap.{FinMap, get, insert, remove, len, find, from_entries, from_entries_push, get-from_entries, get-insert, get-remove, len-insert, len-empty, same_map, slice_cmp-IsAntisymmetric, nat_cmp-IsAntisymmetric}
+use Rattle.std.specs.FinMap.{get, insert, remove, len, find, from_entries, from_entries_push, get-from_entries, get-insert, get-remove, len-insert, len-empty, same_map, slice_cmp-IsAntisymmetric, nat_cmp-IsAntisymmetric}
 use Rattle.std.proofs.lemmas.Bool.{cases_Bool, false≢true, true≢false, false_from_ne_true, eqb-true, eqb-false}
 use Rattle.std.proofs.lemmas.Bool.Decides.{same_from_decides, Decides-like}
 use Rattle.std.proofs.lemmas.Slice.Eq.{bytes_eq-Decides}
@@ -18,21 +18,24 @@ use Rattle.subscriber_map.specs.declared.mapping.Held.{Held}
 use Rattle.cable_base.specs.declared.faults.OutOfMemory.{OutOfMemory}
 use Rattle.cable_base.specs.declared.numbers.ConnNo.{ConnNo}
 use Rattle.cable_base.specs.declared.numbers.WantNo.{WantNo}
-use Rattle.subscriber_map.specs.Holds.{is_of, is_before, with_hold, without, IsNewAmong}
+use Rattle.subscriber_map.specs.Holds.{is_before, with_hold, without, IsNewAmong}
 use Rattle.subscriber_map.specs.HoldMaps.{HoldMap, holds_at, with_holds_at, with_hold_at, without_at, LooksAt}
 use Rattle.subscriber_map.specs.Entries.{pairs_of, map_of, AreDifferent, AreEntries, LiesAt, LiesNowhere}
 
 -- ---- names as keys
 
 -- the key is the name
-abbrev ties : List ℕ → List ℕ → Bool
+abbrev pub ties : List ℕ → List ℕ → Bool
 ties q name = eq_by_cmp (slice_cmp nat_cmp) q name
 
-ties_is : (q name : List ℕ) → ties q name ≡ bytes_eq name q
+pub ties_is : (q name : List ℕ) → ties q name ≡ bytes_eq name q
 ties_is q name = is_eq-slice_cmp q name ∙ same_from_decides _ _ (bytes_eq-Decides q name) (Decides-like _ sym sym (bytes_eq-Decides name q))
 
-tied : (q name : List ℕ) → ties q name ≡ true → q ≡ name
+pub tied : (q name : List ℕ) → ties q name ≡ true → q ≡ name
 tied q name h = sym ((bytes_eq-Decides name q).0 (sym (ties_is q name) ∙ h))
+
+pub tied-self : (q : List ℕ) → ties q q ≡ true
+tied-self q = ties_is q q ∙ (bytes_eq-Decides q q).1 refl
 
 found : List ℕ → List Held → Option (List Hold)
 found q es = find (slice_cmp nat_cmp) q (pairs_of es)
@@ -93,15 +96,21 @@ get_is q es = get-from_entries nat_list_cmp_total (pairs_of es) q
 holds_here : (q : List ℕ) (es : List Held) (i : ℕ) (d : Held) → LiesAt q es i → holds_at (map_of es) q ≡ (get_or es i d).holds
 holds_here q es i d h = ap (λ o. unwrap_or o []) (get_is q es ∙ found_here q es i d h)
 
-get_nowhere : (q : List ℕ) (es : List Held) → LiesNowhere q es → get (map_of es) q ≡ None
+pub get_nowhere : (q : List ℕ) (es : List Held) → LiesNowhere q es → get (map_of es) q ≡ None
 get_nowhere q es h = get_is q es ∙ found_nowhere q es h
 
 holds_nowhere : (q : List ℕ) (es : List Held) → LiesNowhere q es → holds_at (map_of es) q ≡ []
 holds_nowhere q es h = ap (λ o. unwrap_or o []) (get_nowhere q es h)
 
+pub get_there : (q : List ℕ) (es : List Held) (i : ℕ) (h : Held) → LiesAt q es i → h ≡ get_or es i h → get (map_of es) q ≡ Some h.holds
+get_there q es i h l at = get_is q es ∙ (found_here q es i h l ∙ ap (λ (x : Held). Some x.holds) (sym at))
+
+pub holds_there-some : (q : List ℕ) (es : List Held) (i : ℕ) (h : Held) → AreEntries es → LiesAt q es i → h ≡ get_or es i h → h.holds ≢ []
+holds_there-some q es i h k l at = subst (λ (x : Held). x.holds ≢ []) (sym at) (k.held i h (within q es i l))
+
 -- ---- writing
 
-same_maps : (m n : HoldMap) → ((r : List ℕ) → get m r ≡ get n r) → m ≡ n
+pub same_maps : (m n : HoldMap) → ((r : List ℕ) → get m r ≡ get n r) → m ≡ n
 same_maps m n h = same_map nat_list_cmp_total (slice_cmp-IsAntisymmetric nat_cmp-IsAntisymmetric) m n h
 
 shadowed : {A : Type 0} (b : Bool) (x y z : A) → cond b x z ≡ cond b x (cond b y z)

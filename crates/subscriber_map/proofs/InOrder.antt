@@ -1,8 +1,8 @@
 -- The holds of a name stay in their order, and each stays one, when one is put in its place or taken away.
-use Rattle.std.proofs.Common.{◌≡◌, ◌≢◌, ℕ, zero, suc, ◌+◌, ◌<◌, ◌≤◌, ◌==◌, ◌&&◌, ◌||◌, not, cond, ltb, Bool, true, false, List, [], ◌∷◌, ◌++◌, length, get_or, take, drop, inl, inr, refl, sym, ap, subst, ◌∙◌, arith, append-nil, take-append-drop}
+use Rattle.std.proofs.Common.{◌≡◌, ◌≢◌, ℕ, zero, suc, ◌<◌, ◌≤◌, not, cond, Bool, true, false, List, [], ◌∷◌, ◌++◌, length, get_or, take, drop, inl, inr, refl, sym, ap, subst, arith}
 use Rattle.std.specs.List.{All, AllWithin, filter}
 use Rattle.std.specs.List.Sorted.{IsPartitionedBy, IsPartitionPoint}
-use Rattle.std.proofs.lemmas.Bool.{cases_Bool, cases_order, false≢true}
+use Rattle.std.proofs.lemmas.Bool.{cases_order}
 use Rattle.std.proofs.lemmas.Bool.Decides.{nat_tests}
 use Rattle.std.proofs.lemmas.List.Elements.{All-cons, All-head, All-tail, All-append, All-filter, All-weaker, filter_passes}
 use Rattle.cable_base.specs.declared.numbers.ConnNo.{ConnNo}
@@ -12,7 +12,7 @@ use Rattle.subscriber_map.specs.Holds.{is_before, is_of, AreInOrder, AreApart, A
 
 -- ---- the order
 
-before-trans : (a b c : Hold) → is_before a b ≡ true → is_before b c ≡ true → is_before a c ≡ true
+pub before-trans : (a b c : Hold) → is_before a b ≡ true → is_before b c ≡ true → is_before a c ≡ true
 before-trans a b c p q = grind (arith, nat_tests)
 
 -- of two different subscriptions one stands before the other
@@ -97,7 +97,7 @@ not_of hold x new =
     let apart : x.conn.0 ≡ hold.conn.0 → x.want.0 ≡ hold.want.0 → ⊥ = λ c w. (new (λ i. record { 0 = c i })).1 (λ i. record { 0 = w i }) in
     grind (arith, nat_tests)
 
-of_not : (hold x : Hold) → (x.conn ≡ hold.conn → (x.sub ≢ hold.sub) × (x.want ≢ hold.want)) → is_of hold.conn hold.want x ≡ false
+pub of_not : (hold x : Hold) → (x.conn ≡ hold.conn → (x.sub ≢ hold.sub) × (x.want ≢ hold.want)) → is_of hold.conn hold.want x ≡ false
 of_not hold x new =
     let apart : x.conn.0 ≡ hold.conn.0 → x.want.0 ≡ hold.want.0 → ⊥ = λ c w. (new (λ i. record { 0 = c i })).1 (λ i. record { 0 = w i }) in
     grind (arith, nat_tests)

@@ -76,6 +76,9 @@ impl Holds {
         requires { IsNewAmong hold self.old }
         ensures ok { OnOk result (self.new ≡ with_hold hold self.old) }
         ensures err { OnErr result (self.new ≡ self.old) }
+
+        // Taking it away again gives the holds as they were.
+        ensures back { without hold.conn hold.want (with_hold hold self.old) ≡ self.old }
     {
         let place = place_for(&self.items, &hold);
         self.items.insert(place, hold)?;

@@ -1,4 +1,4 @@
-ghost use Rattle.std.specs.Prelude.{◌≡◌, ◌≢◌, [], IfOk, OnOk, OnErr, position};
+ghost use Rattle.std.specs.Prelude.{◌≡◌, ◌≢◌, ◌<◌, ◌++◌, ℕ, List, [], IfOk, OnOk, OnErr, length, position};
 ghost use Rattle.std.specs.List.{list_any, All};
 ghost use Rattle.std.specs.List.Sorted.{IsPermutation, IsSorted};
 ghost use Rattle.std.specs.Str.{bytes_eq};
@@ -7,7 +7,7 @@ ghost use Rattle.std.specs.Cmp.Lexicographic.{slice_cmp};
 ghost use Rattle.std.specs.FinMap as maps;
 ghost use Rattle.subscriber_map.specs.Holds.{is_of, AreHolds, IsNewAmong};
 ghost use Rattle.subscriber_map.specs.HoldMaps.{holds_at, with_hold_at, without_at, LooksAt};
-ghost use Rattle.subscriber_map.specs.Entries.{names_of};
+ghost use Rattle.subscriber_map.specs.Entries.{names_of, map_of, AreEntries, LiesAt};
 
 use crate::holding::{Hold, Holds};
 use cable_base::{ConnNo, Listed, Name, OutOfMemory, Steps, WantNo};
@@ -48,6 +48,41 @@ fn place_of(entries: &[Held], name: &str) -> Option<usize>
     entries.iter().position(|held| held.name.as_str() == name)
 }
 
+/// Whether the name is one text with another behind it.
+fn is_joined(name: &str, first: &str, rest: &str) -> bool
+    ensures { result ≡ bytes_eq name.now (first.now ++ rest.now) }
+{
+    match name.as_bytes().strip_prefix(first.as_bytes()) {
+        Some(behind) => behind == rest.as_bytes(),
+        None => false,
+    }
+}
+
+/// Where the name stands that is one text with another behind it.
+fn place_of_joined(entries: &[Held], first: &str, rest: &str) -> Option<usize>
+    ensures { result ≡ position (λ e. bytes_eq e.name (first.now ++ rest.now)) entries.now }
+{
+    entries
+        .iter()
+        .position(|held| is_joined(held.name.as_str(), first, rest))
+}
+
+/// Takes the hold of a connection's want of the name at this place away, and the name with its last one. Answers whether it was there.
+fn remove_from(entries: &mut Vec<Held>, place: usize, conn: ConnNo, want: WantNo) -> bool
+    requires within { place < length entries.old.items }
+    requires entries { AreEntries entries.old.items }
+    ensures entries { (name : List ℕ) → LiesAt name entries.old.items place → AreEntries entries.new.items }
+    ensures was { (name : List ℕ) → LiesAt name entries.old.items place → result ≡ list_any (is_of conn want) (holds_at (map_of entries.old.items) name) }
+    ensures left { (name : List ℕ) → LiesAt name entries.old.items place → map_of entries.new.items ≡ without_at (map_of entries.old.items) name conn want }
+{
+    let held = &mut entries[place];
+    let was = held.holds.remove(conn, want);
+    if held.holds.is_empty() {
+        entries.remove(place);
+    }
+    was
+}
+
 /// Copies of the names, as they stand.
 fn copied_names(alloc: Global, entries: &[Held]) -> Result<Vec<Name>, OutOfMemory>
     ensures { IfOk result (λ names. names.items ≡ names_of entries.now) }
@@ -82,6 +117,9 @@ impl SubscriberMap {
         requires { IsNewAmong hold (holds_at self.old name.now) }
         ensures ok { OnOk result (self.new ≡ with_hold_at self.old name.now hold) }
         ensures err { OnErr result (self.new ≡ self.old) }
+
+        // Taking it away again gives the map as it was.
+        ensures back { without_at (with_hold_at self.old name.now hold) name.now hold.conn hold.want ≡ self.old }
     {
         let Some(place) = place_of(&self.entries, name) else {
             let alloc = *self.entries.allocator();
@@ -105,12 +143,19 @@ impl SubscriberMap {
         let Some(place) = place_of(&self.entries, name) else {
             return false;
         };
-        let held = &mut self.entries[place];
-        let was = held.holds.remove(conn, want);
-        if held.holds.is_empty() {
-            self.entries.remove(place);
-        }
-        was
+        remove_from(&mut self.entries, place, conn, want)
+    }
+
+    /// Takes the hold of a connection's want of a name away that is one text with another behind it, and answers whether it was there. It
+    /// takes no memory.
+    pub fn remove_joined(&mut self, first: &str, rest: &str, conn: ConnNo, want: WantNo) -> bool
+        ensures was { result ≡ list_any (is_of conn want) (holds_at self.old (first.now ++ rest.now)) }
+        ensures left { self.new ≡ without_at self.old (first.now ++ rest.now) conn want }
+    {
+        let Some(place) = place_of_joined(&self.entries, first, rest) else {
+            return false;
+        };
+        remove_from(&mut self.entries, place, conn, want)
     }
 
     /// The holds of a name, by rising connection and then by rising subscription. It takes a step for each name that it looks

@@ -18,7 +18,7 @@ returns-in-Ok-clause-steps c =
       | inr call ↦ went_well old.keeper.failures new.keeper.failures call (λ e. no-fault c.in-Ok.id (Ok c.in-Ok.id) store_fault.Failed refl e)
     ] in
     IfOk-weaker c.one_line.result _ _
-    (λ said is. cast_steps (rules_of c.args.self.now.book) (held c.args.self.now) _ c.args.at c.args.channel.now c.args.payload.now c.in-Ok.id said refl refl c.in-Ok.ensures.next c.in-Ok.ensures.last c.in-Ok.ensures.row calls is)
+    (λ said is. cast_steps (rules_of c.args.self.now.book) (held c.args.self.now) c.commit.new.self c.args.at c.args.channel.now c.args.payload.now c.in-Ok.id said c.in-Ok.ensures.next c.in-Ok.ensures.last c.in-Ok.ensures.row calls is)
     c.one_line.ensures
 
 pub returns-in-Err-Failed-clause-steps : goal.returns-in-Err-Failed-clause-steps
@@ -32,6 +32,6 @@ returns-in-Err-Failed-clause-steps c =
       | inr call ↦ was_refused old.keeper.failures new.keeper.failures call failed
     ] in
     IfOk-weaker c.store_refused.result _ _
-    (λ said is. cast_refused (rules_of c.args.self.now.book) (held c.args.self.now) _ c.args.at c.args.channel.now c.args.payload.now said refl refl
+    (λ said is. cast_refused (rules_of c.args.self.now.book) (held c.args.self.now) c.commit.new.self c.args.at c.args.channel.now c.args.payload.now said
     (same_Some new.keeper.rows old.keeper.rows c.in-Err-Failed.ensures.err.0) c.in-Err-Failed.ensures.err.1 calls is)
     c.store_refused.ensures

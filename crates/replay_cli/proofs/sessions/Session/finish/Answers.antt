@@ -1,24 +1,33 @@
-use Rattle.std.proofs.Common.{◌∙◌, false, List, refl, sym, ap}
+use Rattle.std.proofs.Common.{◌≡◌, ◌∙◌, ◌∷◌, List, Option, Some, refl, sym, ap, subst}
 use Rattle.cable_model.specs.Script.{rules_of}
+use Rattle.cable_model.specs.Steps.{Step}
+use Rattle.node_core.specs.Jobs.{WorkState, Fits}
+use Rattle.node_core.specs.Nodes.{past}
 use Rattle.replay_cli.specs.Sessions.{held}
-use Rattle.cable_model.specs.declared.lines.Line.{Line}
-use Rattle.replay_cli.specs.declared.saying.Said.{Said}
-use Rattle.replay_cli.proofs.FollowingJobs.{job-at, prepared, finish_idle, finish_steps}
+use Rattle.replay_cli.proofs.Drained.{ok-both}
+use Rattle.replay_cli.proofs.FollowingJobs.{fits-now, finish-within, finish_steps}
 use Rattle.replay_cli.proofs.sessions.Session.finish.Goals as goal
-
-pub returns-then-not-has_job-clause-steps : goal.returns-then-not-has_job-clause-steps
-returns-then-not-has_job-clause-steps c = rw c.idle.ensures (finish_idle (rules_of c.args.self.now.book) c.requires.plain (held c.args.self.now) c.args.conn (sym c.has_job.ensures ∙ c.if-not-has_job.true))
 
 pub finish-requires : goal.finish-requires
 finish-requires c =
-    let j = job-at c.args.conn.0 c.args.self.now.seats.entries (sym c.has_job.ensures ∙ c.if-not-has_job.false) in
-    let p = prepared (rules_of c.args.self.now.book) c.requires.plain (held c.args.self.now) c.requires.stands.0 c.args.conn.0 j.seated j.placed c.in_ok-plan.plan c.reserve_plan.new.self.entries
-    c.requires.stands.1 j.found j.out (c.in_ok-plan.ensures j.seated j.placed j.found j.out) c.in_ok-reserve_plan.ensures.ok in
-    (p.seated, p.found, p.can)
+    let found = sym c.in-Some-remove.ensures.value in
+    subst (λ (k : WorkState). Fits k c.in-Some.node) (sym c.into_work.ensures)
+    (fits-now (rules_of c.args.self.now.book) c.requires.plain (held c.args.self.now) c.requires.stands c.args.conn.0 c.in-Some.node c.in-Some-remove.out c.in-Some.is found)
 
-pub returns-clause-steps : goal.returns-clause-steps
-returns-clause-steps c =
-    let j = job-at c.args.conn.0 c.args.self.now.seats.entries (sym c.has_job.ensures ∙ c.if-not-has_job.false) in
-    finish_steps (rules_of c.args.self.now.book) c.requires.plain (held c.args.self.now) _ c.args.conn j.seated j.placed c.in_ok-plan.plan c.reserve_plan.new.self.entries _ j.found j.out
-    (c.in_ok-plan.ensures j.seated j.placed j.found j.out) refl refl c.in_ok-reserve_plan.ensures.ok c.finish.ensures
-    (ap (λ (ls : List Line). let s : Said = record { idle = false; lines = ls } in s) c.in_ok-lines.ensures)
+pub drain-requires : goal.drain-requires
+drain-requires c =
+    let found = sym c.in-Some-remove.ensures.value in
+    let e = c.in-Ok.ensures in
+    let grown = e.ok ∙ ap (λ (k : WorkState). Step.Finish k.conn.0 k.puts k.plan ∷ past c.in-Some.node) c.into_work.ensures in
+    finish-within (rules_of c.args.self.now.book) (held c.args.self.now) c.requires.stands c.args.conn.0 c.in-Some.node c.finish.new.self c.in-Some-remove.out c.in-Some.is found grown e.taken
+
+pub returns-in-Ok-clause-steps : goal.returns-in-Ok-clause-steps
+returns-in-Ok-clause-steps c =
+    let found = sym c.in-Some-remove.ensures.value in
+    let e = c.in-Ok.ensures in
+    let d = c.drain.ensures in
+    let grown = e.ok ∙ ap (λ (k : WorkState). Step.Finish k.conn.0 k.puts k.plan ∷ past c.in-Some.node) c.into_work.ensures in
+    ok-both c.drain.result _ _ _
+    (λ said told taken. finish_steps (rules_of c.args.self.now.book) c.requires.plain (held c.args.self.now) _ c.args.conn c.in-Some.node c.finish.new.self c.drain.new.node c.in-Some-remove.out said c.in-Some.is found grown e.taken
+    refl c.remove.ensures.updates.0 c.remove.ensures.ordered refl refl e.no d.kept.0 d.kept.1 taken d.others told)
+    d.lines d.taken

@@ -1,17 +1,42 @@
-use Rattle.std.proofs.Common.{◌∙◌, ℕ, false, List, [], ◌∷◌, Option, refl, sym, ap, subst}
+use Rattle.std.proofs.Common.{◌≡◌, ◌∙◌, Option, Some, refl, sym, ap}
 use Rattle.cable_model.specs.Script.{rules_of}
-use Rattle.replay_cli.specs.Sessions.{held, OpensAs}
-use Rattle.cable_model.specs.Transcript.{conn_line, greeting}
-use Rattle.replay_cli.specs.declared.saying.Said.{Said}
-use Rattle.replay_cli.proofs.FollowingWork.{open_idle, open_steps}
+use Rattle.node_core.specs.Opening.{open_fault}
+use Rattle.node_core.specs.Nodes.{past}
+use Rattle.replay_cli.specs.Sessions.{held}
+use Rattle.replay_cli.proofs.Drained.{ok-both}
+use Rattle.replay_cli.proofs.FollowingOpens.{open-done, open-refused, open_idle, open-within, open_steps}
 use Rattle.replay_cli.proofs.sessions.Session.open.Goals as goal
 
-pub returns-then-not-may_open-clause-steps : goal.returns-then-not-may_open-clause-steps
-returns-then-not-may_open-clause-steps c = rw c.idle.ensures (open_idle (rules_of c.args.self.now.book) (held c.args.self.now) c.args.conn c.args.token.now (sym c.may_open.ensures ∙ c.if-not-may_open.true))
+pub drain-requires : goal.drain-requires
+drain-requires c =
+    let e = c.in-Ok.ensures in
+    open-within (rules_of c.args.self.now.book) (held c.args.self.now) c.requires.stands c.args.conn.0 c.args.token.now _ c.in-Some.node c.open_conn.new.self c.in-Some.is e.ok e.taken
 
-pub returns-clause-steps : goal.returns-clause-steps
-returns-clause-steps c =
-    open_steps (rules_of c.args.self.now.book) (held c.args.self.now) _ c.args.conn c.args.token.now c.in_ok-said.said (sym c.may_open.ensures ∙ c.if-not-may_open.false) refl refl
-    (subst (λ (o : Option (List ℕ)). OpensAs c.args.conn.0 o c.args.self.now.seats.entries c.keep.new.seats.entries) c.identify-user.ensures.user c.in_ok-keep.ensures.opens) c.in_ok-keep.ensures.rising
-    (c.in_ok-said.ensures
-    ∙ ap (λ (t : List ℕ). let s : Said = record { idle = false; lines = conn_line c.args.conn.0 t ∷ [] } in s) (c.in_ok-text.ensures ∙ ap greeting c.identify-user.ensures.user))
+pub returns-in-Ok-clause-steps : goal.returns-in-Ok-clause-steps
+returns-in-Ok-clause-steps c =
+    let e = c.in-Ok.ensures in
+    let d = c.drain.ensures in
+    ok-both c.drain.result _ _ _
+    (λ said told taken. open_steps (rules_of c.args.self.now.book) (held c.args.self.now) _ c.args.conn c.args.token.now c.in-Some.node c.open_conn.new.self c.drain.new.node said c.in-Some.is refl refl refl refl e.no
+    (open-done c.in-Ok.field-0 (open_fault c.args.conn.0 (past c.in-Some.node)) e.fault) e.ok e.taken d.kept.0 d.kept.1 taken d.others told)
+    d.lines d.taken
+
+pub returns-in-Err-Used-clause-steps : goal.returns-in-Err-Used-clause-steps
+returns-in-Err-Used-clause-steps c =
+    let e = c.in-Err-Used.ensures in
+    let is = c.in-Err-Used.field-0-is in
+    let cause =
+    open-refused (Unit {0}) c.in-Err-Used.field-0 (open_fault c.args.conn.0 (past c.in-Some.node)) (λ m. cc (m, is)) e.fault
+    in
+    rw c.idle-in-Err-Used.ensures
+    (open_idle (rules_of c.args.self.now.book) (held c.args.self.now) _ c.args.conn c.args.token.now c.in-Some.node c.open_conn.new.self c.in-Err-Used.field-0 c.in-Some.is refl refl refl refl e.no e.err cause)
+
+pub returns-in-Err-Full-clause-steps : goal.returns-in-Err-Full-clause-steps
+returns-in-Err-Full-clause-steps c =
+    let e = c.in-Err-Full.ensures in
+    let is = c.in-Err-Full.field-0-is in
+    let cause =
+    open-refused (Unit {0}) c.in-Err-Full.field-0 (open_fault c.args.conn.0 (past c.in-Some.node)) (λ m. cc (m, is)) e.fault
+    in
+    rw c.idle-in-Err-Full.ensures
+    (open_idle (rules_of c.args.self.now.book) (held c.args.self.now) _ c.args.conn c.args.token.now c.in-Some.node c.open_conn.new.self c.in-Err-Full.field-0 c.in-Some.is refl refl refl refl e.no e.err cause)

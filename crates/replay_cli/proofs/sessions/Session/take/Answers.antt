@@ -1,19 +1,20 @@
-use Rattle.std.proofs.Common.{◌∙◌, refl, sym}
+use Rattle.std.proofs.Common.{◌≡◌, ◌∙◌, Bool, true, cond, List, ◌∷◌, refl, sym, ap}
+use Rattle.std.specs.Prelude.{is_some}
 use Rattle.cable_model.specs.Script.{rules_of}
+use Rattle.cable_model.specs.Steps.{Step}
+use Rattle.node_core.specs.Jobs.{JobState}
+use Rattle.node_core.specs.Nodes.{past}
 use Rattle.replay_cli.specs.Sessions.{held}
-use Rattle.replay_cli.proofs.Following.{live-at}
-use Rattle.replay_cli.proofs.FollowingJobs.{take_none, take_idle, take_steps}
+use Rattle.replay_cli.proofs.FollowingJobs.{take_steps}
 use Rattle.replay_cli.proofs.sessions.Session.take.Goals as goal
-
-pub returns-then-not-is_live-clause-steps : goal.returns-then-not-is_live-clause-steps
-returns-then-not-is_live-clause-steps c = rw c.idle.ensures (take_none (rules_of c.args.self.now.book) (held c.args.self.now) c.args.conn (sym c.is_live.ensures ∙ c.if-not-is_live.true))
-
-pub returns-then-not-take-clause-steps : goal.returns-then-not-take-clause-steps
-returns-then-not-take-clause-steps c =
-    rw c.idle-then-not-take.ensures (take_idle (rules_of c.args.self.now.book) (held c.args.self.now) _ c.args.conn (sym c.take.ensures.answer ∙ c.if-not-take.true) refl refl c.take.ensures.taken)
 
 pub returns-clause-steps : goal.returns-clause-steps
 returns-clause-steps c =
+    let e = c.in_ok-job.ensures in
+    let i = c.in_ok-insert.ensures in
+    let is = c.in-Some-2.is in
+    let some : is_some c.in_ok-job.field-0 ≡ true = ap is_some is in
+    let out = e.job c.in-Some-2.job is in
     rw c.silent.ensures
-    (take_steps (rules_of c.args.self.now.book) (held c.args.self.now) _ c.args.conn (live-at c.args.conn.0 c.args.self.now.seats.entries (sym c.is_live.ensures ∙ c.if-not-is_live.false))
-    (sym c.take.ensures.answer ∙ c.if-not-take.false) refl refl c.take.ensures.taken)
+    (take_steps (rules_of c.args.self.now.book) (held c.args.self.now) _ c.args.conn c.in-Some.node c.take.new.self c.in-Some-2.job (record { work = c.in-Ok.work }) c.in-Some.is refl i.updates.0 i.ordered refl refl e.no
+    (sym e.answer ∙ some) (e.ok ∙ ap (λ b. cond b (Step.Take c.args.conn.0 ∷ past c.in-Some.node) (past c.in-Some.node)) some) out.0 out.1 c.in-Ok.ensures.ok e.taken)

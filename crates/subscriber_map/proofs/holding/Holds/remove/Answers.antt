@@ -1,4 +1,4 @@
-use Rattle.std.proofs.Common.{◌≡◌, sym, ◌∙◌, ap, refl, not, rules}
+use Rattle.std.proofs.Common.{◌∙◌, ap, not, rules}
 use Rattle.std.proofs.lemmas.Fn.{filter_same}
 use Rattle.subscriber_map.proofs.InOrder.{AreHolds-without}
 use Rattle.subscriber_map.specs.Holds.{is_of, without}

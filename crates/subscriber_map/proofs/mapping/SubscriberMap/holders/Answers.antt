@@ -1,9 +1,7 @@
-use Rattle.std.proofs.Common.{◌≡◌, ◌+◌, ◌<◌, length, take, get_or, sym, ap, subst, ◌∙◌, arith, false}
+use Rattle.std.proofs.Common.{◌≡◌, ◌+◌, length, sym, ap, subst, ◌∙◌, arith, false}
 use Rattle.std.proofs.lemmas.List.Elements.{All-more}
 use Rattle.std.specs.Str.{bytes_eq}
 use Rattle.subscriber_map.specs.declared.mapping.Held.{Held}
-use Rattle.subscriber_map.specs.Entries.{LiesAt, LiesNowhere, map_of}
-use Rattle.subscriber_map.specs.HoldMaps.{HoldMap, holds_at}
 use Rattle.subscriber_map.proofs.ByName.{lies_after, lies_in_none, read_there, read_nowhere, looked_there, looked_nowhere}
 use Rattle.subscriber_map.proofs.mapping.SubscriberMap.holders.Goals as goal
 

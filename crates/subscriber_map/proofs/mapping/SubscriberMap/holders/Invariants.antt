@@ -1,4 +1,4 @@
-use Rattle.std.proofs.Common.{◌≡◌, ◌+◌, ◌≤◌, drop, take, length}
+use Rattle.std.proofs.Common.{◌≡◌, ◌+◌, take}
 use Rattle.subscriber_map.specs.Entries.{LiesNowhere}
 use Rattle.subscriber_map.proofs.mapping.SubscriberMap.holders.Given as goal
 

@@ -1,4 +1,4 @@
-use Rattle.std.proofs.Common.{◌∙◌, sym, ap}
+use Rattle.std.proofs.Common.{◌∙◌, ap}
 use Rattle.subscriber_map.specs.Entries.{names_of}
 use Rattle.subscriber_map.proofs.NamesInOrder.{names_are, names_held}
 use Rattle.subscriber_map.proofs.mapping.SubscriberMap.names.Goals as goal

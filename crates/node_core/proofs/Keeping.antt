@@ -1,0 +1,23 @@
+-- A log that grows by an entry is the journal with this entry laid on it.
+use Rattle.std.proofs.Common.{◌≡◌, ℕ, List, [], ◌∷◌, ◌++◌, length, Result, Ok, Err, IsOk, IfOk, OnOk, refl, arith}
+use Rattle.cable_model.specs.declared.journals.Beside.{Beside}
+use Rattle.cable_model.specs.declared.journals.Entry.{Entry}
+use Rattle.cable_model.specs.Journal.{laid, step_of}
+use Rattle.cable_model.specs.Steps.{Step}
+
+pub laid-push : (past : List Step) (log : List Entry) (beside : List Beside) (e : Entry) (b : Beside) → length log ≡ length beside
+    → laid past (log ++ e ∷ []) (beside ++ b ∷ []) ≡ step_of e b ∷ laid past log beside
+laid-push past [] [] e b even = refl
+laid-push past [] (y ∷ bs) e b even = absurd cc
+laid-push past (x ∷ es) [] e b even = absurd cc
+laid-push past (x ∷ es) (y ∷ bs) e b even = laid-push (step_of x y ∷ past) es bs e b (omega (arith, even))
+
+-- what a call promises where it succeeds, where it does
+pub on-ok : {A E : Type 0} (P : Type 0) (r : Result A E) → IsOk r → OnOk r P → P
+on-ok P (Ok x) is h = h
+on-ok P (Err e) is h = absurd cc
+
+-- what a call promises of what it gives, in other words
+pub if-implied : {A E : Type 0} (P Q : A → Type 0) (r : Result A E) → ((x : A) → P x → Q x) → IfOk r P → IfOk r Q
+if-implied P Q (Ok x) f h = f x h
+if-implied P Q (Err e) f h = h

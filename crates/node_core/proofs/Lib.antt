@@ -1,0 +1,13 @@
+pub mod Keeping
+pub mod Queueing
+pub mod Pinging
+pub mod Telling
+pub mod Standing
+pub mod Speaking
+pub mod Openings
+pub mod Asking
+pub mod Delivering
+pub mod Finishes
+pub mod TakingOut
+pub mod Carrying
+pub mod TakingJobs

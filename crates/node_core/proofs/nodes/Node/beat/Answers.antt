@@ -1,0 +1,25 @@
+use Rattle.std.proofs.Common.{◌≡◌, ◌∙◌, List, map, refl, sym, ap, subst}
+use Rattle.cable_base.specs.declared.numbers.ConnNo.{ConnNo}
+use Rattle.std.specs.List.{list_any}
+use Rattle.node_core.specs.Nodes.{ping_of}
+use Rattle.node_outbox.specs.declared.outs.Queued.{Queued}
+use Rattle.node_outbox.specs.Outboxes.{HasRoomFor, Queues}
+use Rattle.node_core.proofs.Speaking.{beats, beat-room}
+use Rattle.node_core.proofs.Standing.{room-out, room-left}
+use Rattle.node_core.proofs.nodes.Node.beat.Goals as goal
+
+pub put_all-requires : goal.put_all-requires
+put_all-requires c =
+    let enough = rw (c.deref-2.ensures.value, c.in_ok-conns.ensures) at c.in_ok-reserve_each.ensures.ok in
+    let room = beat-room c.args.now.0 c.reserve_each.new.self c.self.invariant.0 enough in
+    record {
+      room = subst (λ (qs : List Queued). HasRoomFor qs c.reserve_each.new.self)
+          (sym (c.in_ok-queued.ensures ∙ ap (map (ping_of c.args.now.0)) (c.deref.ensures.value ∙ c.in_ok-conns.ensures))) room;
+    }
+
+pub invariant_of-self-2 : goal.invariant_of-self-2
+invariant_of-self-2 c =
+    let said = rw (c.in_ok-queued.ensures, c.deref.ensures.value, c.in_ok-conns.ensures) at c.put_all.ensures in (
+      rw (c.enter.ensures.entered, c.in_ok-reserve.ensures.kept) (beats c.args.now.0 _ (room-out c.reserve_each.new.self c.self.invariant.0 c.in_ok-reserve_each.ensures.same) said),
+      room-left _ c.reserve.new.self c.enter.new.self c.in_ok-reserve.ensures.log c.in_ok-reserve.ensures.beside c.enter.ensures.log c.enter.ensures.beside,
+    )

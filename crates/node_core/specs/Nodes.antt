@@ -1,0 +1,93 @@
+-- What a node is: its journal, and how many of the texts and notes of each connection were taken out. All else that it keeps is what the
+-- journal says.
+use Rattle.std.specs.Prelude.{◌≡◌, ◌<◌, ◌≤◌, ◌/◌, ℕ, true, List, [], ◌∷◌, length, map, drop}
+use Rattle.cable_base.specs.declared.numbers.ConnNo.{ConnNo}
+use Rattle.cable_base.specs.declared.numbers.NodeNo.{NodeNo}
+use Rattle.cable_json.specs.Texts.{ping_text}
+use Rattle.cable_model.specs.declared.lines.Line.{Line}
+use Rattle.cable_model.specs.Journal.{Kept, past_of}
+use Rattle.cable_model.specs.Legal.{Legal}
+use Rattle.cable_model.specs.Possible.{is_booted, is_out, last_turn}
+use Rattle.cable_model.specs.Steps.{Step}
+use Rattle.cable_model.specs.Transcript.{conn_line, conn_note, queued}
+use Rattle.cable_model.specs.Wants.{lower}
+use Rattle.node_outbox.specs.declared.outs.Out.{Out}
+use Rattle.node_outbox.specs.declared.outs.Out.TheVariants as out
+use Rattle.node_outbox.specs.declared.outs.Queued.{Queued}
+use Rattle.node_outbox.specs.Outboxes.{OutboxesState, queue_at, taken_at}
+use Rattle.node_holds.specs.Held.{AreHeld}
+use Rattle.node_seats.specs.declared.turning.Wanted.{Wanted}
+use Rattle.node_seats.specs.Numbers.{Numbers}
+use Rattle.node_seats.specs.AreSeats.{AreSeats}
+use Rattle.poll_turn.specs.Turns.{CursorState, AreMessages}
+use Rattle.subscriber_map.specs.HoldMaps.{HoldMap}
+use Rattle.turn_wants.specs.Wished.{AreWished}
+use Rattle.node_core.specs.Journals.{JournalState}
+
+pub record NodeState : Type 0 where
+  pub no : NodeNo
+  pub kept : Kept
+  pub outs : OutboxesState
+
+-- the journal of a node
+abbrev pub past : NodeState → List Step
+past n = past_of n.kept
+
+-- how many of what was queued on c were taken out
+abbrev pub taken_out : ℕ → NodeState → ℕ
+taken_out c n = taken_at c n.outs
+
+-- what is queued on c, as a line of it
+abbrev pub line_on : ℕ → Out → Line
+line_on c (out.Text text) = conn_line c text
+line_on c (out.Note n) = conn_note c n
+
+-- what is queued on c is what the journal says, without the first, which were taken out
+pub record IsQueued (c : ℕ) (past : List Step) (outs : OutboxesState) : Type 0 where
+  pub within : taken_at c outs ≤ length (queued c past)
+  pub left : map (line_on c) (queue_at c outs) ≡ drop (taken_at c outs) (queued c past)
+
+-- so on each connection
+abbrev pub AreQueued : List Step → OutboxesState → Type 0
+AreQueued past outs = (c : ℕ) → IsQueued c past outs
+
+-- where the listener stands is what the journal says
+pub record IsAt (past : List Step) (cursor : CursorState) : Type 0 where
+  pub lower_is : cursor.lower.0 ≡ lower past
+  pub turns : cursor.turns ≡ last_turn past
+  pub out : cursor.is_out ≡ is_out past
+
+-- the rows that turns brought have payloads of squeezed JSON
+abbrev pub BringsMessages : List Step → Type 0
+BringsMessages [] = Unit {0}
+BringsMessages (Step.Deliver turn note ∷ past) = AreMessages note.rows × BringsMessages past
+BringsMessages (_ ∷ past) = BringsMessages past
+
+-- while a turn is out there is room for the entry of its Deliver
+pub record HasTurnRoom (past : List Step) (journal : JournalState) : Type 0 where
+  pub log : is_out past ≡ true → 0 < journal.log_spare
+  pub beside : is_out past ≡ true → 0 < journal.beside_spare
+
+-- what a node keeps stands for this journal
+pub record Stands (past : List Step) (seats : Numbers) (outs : OutboxesState) (cursor : CursorState) (holds : HoldMap) (wants : List Wanted) (taken : ℕ) : Type 0 where
+  pub booted : is_booted past ≡ true
+  pub legal : Legal past
+  pub messages : BringsMessages past
+  pub numbers : AreSeats past seats
+  pub queues : AreQueued past outs
+  pub listens : IsAt past cursor
+  pub held : AreHeld past holds
+  pub wished : AreWished past wants taken
+
+-- nothing was taken out
+abbrev pub TakesNone : NodeState → NodeState → Type 0
+TakesNone old new = (c : ℕ) → taken_out c new ≡ taken_out c old
+
+-- nothing happened: the journal is as before, and nothing was taken out
+pub record ReadsSame (old new : NodeState) : Type 0 where
+  pub kept : new.kept ≡ old.kept
+  pub taken : TakesNone old new
+
+-- a ping tells whole seconds
+abbrev pub ping_of : (now : ℕ) → ConnNo → Queued
+ping_of now conn = record { conn = conn; out = out.Text (ping_text (now / 1000)) }

@@ -1,0 +1,168 @@
+ghost use Rattle.std.specs.Prelude.{◌≡◌, ◌≤◌, ◌∷◌, ◌++◌, ℕ, true, map, is_some, OnOk, OnErr, IfOk, IfErr, ◌↔◌};
+ghost use Rattle.cable_model.specs.Steps.{Step};
+ghost use Rattle.cable_model.specs.Wants.{makes};
+ghost use Rattle.node_outbox.specs.Outboxes.{HasRoomFor, Roomier};
+ghost use Rattle.node_seats.specs.Numbers.{Lives, Moves, Prepares, seat_at};
+ghost use Rattle.node_core.specs.Finishing.{IsOutIn, note_on, outs_of, text_on};
+ghost use Rattle.node_core.specs.Jobs.{Fits};
+ghost use Rattle.node_core.specs.Nodes.{past, ReadsSame, TakesNone};
+
+use crate::journals::Journal;
+use crate::nodes::Node;
+use crate::working::Work;
+use cable_base::{ConnNo, Listed, OutOfMemory, SubNo, Text};
+use cable_model::{Beside, Change, Entry, Note, Plan, Task};
+use node_holds::release;
+use node_outbox::{Out, Outboxes, Queued};
+use node_seats::Seats;
+use std::alloc::Global;
+use turn_wants::Wants;
+
+/// Whether the job that is out on the connection stands at this place and needs this.
+fn is_out(seats: &Seats, conn: ConnNo, place: u64, task: &Task) -> bool
+    ensures { (result ≡ true) ↔ IsOutIn place task.now (seat_at conn.0 seats.now.entries) }
+{
+    match seats.get(conn) {
+        Some(seat) => seat.job_place() == Some(place) && seat.is_task(task),
+        None => false,
+    }
+}
+
+/// How many wants a change makes.
+fn wants_made(change: &Change) -> u64
+    ensures { result ≡ makes change.now }
+{
+    match change {
+        Change::Add { streams, .. } | Change::Streams { streams, .. } => {
+            streams.as_slice().len() as u64
+        }
+        Change::Nothing | Change::Remove { .. } | Change::Close => 0,
+    }
+}
+
+/// The texts, to be queued on the connection.
+fn texts_on(alloc: Global, conn: ConnNo, texts: &[Text]) -> Result<Vec<Queued>, OutOfMemory>
+    ensures { IfOk result (λ qs. qs.items ≡ map (text_on conn) texts.now) }
+{
+    let mut queued = Vec::new(alloc);
+    for text in texts {
+        queued.push(Queued {
+            conn,
+            out: Out::Text(text.copy(alloc)?),
+        })?;
+    }
+    Ok(queued)
+}
+
+/// Adds the notes, to be queued on the connection.
+fn add_notes(queued: &mut Vec<Queued>, conn: ConnNo, notes: &[Note]) -> Result<(), OutOfMemory>
+    ensures { OnOk result (queued.new.items ≡ queued.old.items ++ map (note_on conn) notes.now) }
+{
+    for note in notes {
+        queued.push(Queued {
+            conn,
+            out: Out::Note(*note),
+        })?;
+    }
+    Ok(())
+}
+
+/// The texts of a plan and then its notes, to be queued on the connection.
+fn outs_of(alloc: Global, conn: ConnNo, plan: &Plan) -> Result<Vec<Queued>, OutOfMemory>
+    ensures { IfOk result (λ qs. qs.items ≡ outs_of conn plan.now) }
+{
+    let mut queued = texts_on(alloc, conn, plan.texts.as_slice())?;
+    add_notes(&mut queued, conn, plan.notes.as_slice())?;
+    Ok(queued)
+}
+
+/// Makes the room that the finish of a plan needs, and what it queues.
+fn make_room(
+    alloc: Global,
+    conn: ConnNo,
+    plan: &Plan,
+    outboxes: &mut Outboxes,
+    wants: &mut Wants,
+    journal: &mut Journal,
+    seats: &mut Seats,
+) -> Result<Vec<Queued>, OutOfMemory>
+    requires live { is_some (seat_at conn.0 seats.old.entries) ≡ true }
+    ensures outs { IfOk result (λ qs. qs.items ≡ outs_of conn plan.now) }
+    ensures queues { Roomier outboxes.old outboxes.new }
+    ensures queue_room { OnOk result (HasRoomFor (outs_of conn plan.now) outboxes.new) }
+    ensures wanted { wants.new.wanted ≡ wants.old.wanted }
+    ensures wanted_taken { wants.new.taken ≡ wants.old.taken }
+    ensures wants_room { OnOk result (makes plan.now.change ≤ wants.new.spare) }
+    ensures kept { journal.new.kept ≡ journal.old.kept }
+    ensures log_room { OnOk result (2 ≤ journal.new.log_spare) }
+    ensures beside_room { OnOk result (2 ≤ journal.new.beside_spare) }
+    ensures log_stays { journal.old.log_spare ≤ journal.new.log_spare }
+    ensures beside_stays { journal.old.beside_spare ≤ journal.new.beside_spare }
+    ensures prepares { OnOk result (Moves conn.0 (Lives (Prepares plan.now.change)) seats.old.entries seats.new.entries) }
+    ensures err { OnErr result (seats.new ≡ seats.old) }
+{
+    let queued = outs_of(alloc, conn, plan)?;
+    outboxes.reserve(conn, queued.len() as u64)?;
+    wants.reserve(wants_made(&plan.change))?;
+    journal.reserve()?;
+    seats.reserve_plan(conn, plan)?;
+    Ok(queued)
+}
+
+impl Node {
+    /// Whether the work is that of the job that is out on its connection, with no cast left: it can be finished. It takes no memory.
+    pub fn fits(&self, work: &Work) -> bool
+        ensures { (result ≡ true) ↔ Fits work.now self.now }
+    {
+        if work.node != self.no {
+            return false;
+        }
+        if work.puts.len() != work.plan.casts.as_slice().len() {
+            return false;
+        }
+        is_out(&self.seats, work.conn, work.place, &work.task)
+    }
+
+    /// Finishes the work, which fits: the texts and then the notes of its plan are queued, its change is made, and what no longer stands
+    /// is struck from what waits. The work comes back where memory is wanted, and then all is as before.
+    pub fn finish(&mut self, work: Work) -> Result<(), Work>
+        requires { Fits work self.old }
+        ensures no { self.new.no ≡ self.old.no }
+        ensures ok { OnOk result (past self.new ≡ Step.Finish work.conn.0 work.puts work.plan ∷ past self.old) }
+        ensures taken { TakesNone self.old self.new }
+        ensures token { IfErr result (λ w. w ≡ work) }
+        ensures err { OnErr result (ReadsSame self.old self.new) }
+    {
+        let Ok(queued) = make_room(
+            self.alloc,
+            work.conn,
+            &work.plan,
+            &mut self.outboxes,
+            &mut self.wants,
+            &mut self.journal,
+            &mut self.seats,
+        ) else {
+            return Err(work);
+        };
+        let Work {
+            node: _,
+            conn,
+            place,
+            task: _,
+            plan,
+            puts,
+        } = work;
+        let Some(seat) = self.seats.get(conn) else {
+            unreachable!()
+        };
+        release(&mut self.holders, conn, seat, &plan.change);
+        self.wants
+            .put_change(conn, SubNo(place), seat, &plan.change);
+        self.seats.finish(conn, &plan);
+        self.outboxes.put_all(queued);
+        let puts = Listed::of(puts);
+        self.journal
+            .enter(Entry::Finish { conn, puts }, Beside::Worked { plan });
+        Ok(())
+    }
+}

@@ -1,0 +1,190 @@
+ghost use Rattle.std.specs.Prelude.{◌≡◌, ◌≤◌, ℕ, [], Some, cond, is_some, length, vec_capacity, OnErr, IfOk, IfErr, ◌∷◌};
+ghost use Rattle.cable_model.specs.Plans.{plan_for};
+ghost use Rattle.cable_model.specs.Possible.{can_take};
+ghost use Rattle.cable_model.specs.Steps.{Step};
+ghost use Rattle.conn_core.specs.Payloads.{CarriesJson};
+ghost use Rattle.node_seats.specs.Numbers.{seat_at};
+ghost use Rattle.node_core.specs.Jobs.{IsJob, JobState, next_job_in, place_in, work_of};
+ghost use Rattle.node_core.specs.Nodes.{past, ReadsSame, TakesNone};
+
+use crate::nodes::Node;
+use crate::working::Work;
+use cable_base::{ConnNo, NodeNo, OutOfMemory, RowId, Text};
+use cable_model::{Beside, Entry, Plan, Task};
+use channel_book::Callbacks;
+use conn_core::plan;
+use node_seats::Seats;
+use std::alloc::Global;
+use std::marker::Model;
+
+/// What a job is made of, before its piece is taken.
+#[derive(Debug, Drop)]
+struct NextJob {
+    user: Text,
+    task: Task,
+}
+
+/// The plan of a job, with room to note a commit for each of its casts.
+#[derive(Debug, Drop)]
+struct Planned {
+    plan: Plan,
+    puts: Vec<Option<RowId>>,
+}
+
+/// A piece of a connection that was taken, so that the callbacks run without the node. It must be spent: planned or given up.
+#[derive(Debug)]
+pub struct Job {
+    pub(crate) alloc: Global,
+    pub(crate) node: NodeNo,
+    pub(crate) conn: ConnNo,
+    pub(crate) place: u64,
+    pub(crate) user: Text,
+    pub(crate) task: Task,
+}
+
+impl Model for Job {
+    ghost use Rattle.conn_core.specs.Payloads.{CarriesJson};
+    ghost use Rattle.node_core.specs.Jobs.{JobState};
+
+    ghost Value = { JobState };
+
+    ghost view = { λ j. record { node = j.node; conn = j.conn; place = j.place; user = j.user; task = j.task } };
+
+    ghost invariant = { λ j. CarriesJson j.task };
+}
+
+impl Job {
+    /// The connection of the piece. It takes no memory.
+    pub fn conn(&self) -> ConnNo
+        ensures { result ≡ self.now.conn }
+    {
+        self.conn
+    }
+
+    /// The connection's user. It takes no memory.
+    pub fn user(&self) -> &str
+        ensures { result.now ≡ self.now.user }
+    {
+        self.user.as_str()
+    }
+
+    /// What the piece needs. It takes no memory.
+    pub fn task(&self) -> &Task
+        ensures { result.now ≡ self.now.task }
+    {
+        &self.task
+    }
+
+    /// Plans the work with these callbacks. The job comes back where memory is wanted.
+    pub fn plan<C: Callbacks>(self, callbacks: &C) -> Result<Work, Job>
+        ensures ok { IfOk result (λ w. w ≡ work_of (record { identify = C.user_of callbacks.now; subscribed = C.subscribed_of callbacks.now; unsubscribed = C.unsubscribed_of callbacks.now; perform = C.performed_of callbacks.now }) self) }
+        ensures err { IfErr result (λ j. j ≡ self) }
+    {
+        let made = make_plan(self.alloc, &self.task, self.user.as_str(), callbacks);
+        let Ok(made) = made else {
+            return Err(self);
+        };
+        let Job {
+            alloc: _,
+            node,
+            conn,
+            place,
+            user: _,
+            task,
+        } = self;
+        Ok(Work {
+            node,
+            conn,
+            place,
+            task,
+            plan: made.plan,
+            puts: made.puts,
+        })
+    }
+
+    /// Lets the job go. Its node keeps it out for good.
+    pub fn give_up(self) {
+        let Job {
+            alloc: _,
+            node: _,
+            conn: _,
+            place: _,
+            user: _,
+            task: _,
+        } = self;
+    }
+}
+
+/// The plan of a task, with room for the commits of its casts.
+fn make_plan<C: Callbacks>(
+    alloc: Global,
+    task: &Task,
+    user: &str,
+    callbacks: &C,
+) -> Result<Planned, OutOfMemory>
+    requires { CarriesJson task.now }
+    ensures plan { IfOk result (λ p. p.plan ≡ plan_for (record { identify = C.user_of callbacks.now; subscribed = C.subscribed_of callbacks.now; unsubscribed = C.unsubscribed_of callbacks.now; perform = C.performed_of callbacks.now }) user.now task.now) }
+    ensures puts { IfOk result (λ p. p.puts.items ≡ []) }
+    ensures room { IfOk result (λ p. length p.plan.casts ≤ vec_capacity p.puts) }
+{
+    let plan = plan(alloc, task, user, callbacks)?;
+    let mut puts = Vec::new(alloc);
+    puts.reserve(plan.casts.as_slice().len())?;
+    Ok(Planned { plan, puts })
+}
+
+/// What the piece that a take would take needs, and its user, where one would be taken.
+fn next_job(seats: &Seats, alloc: Global, conn: ConnNo) -> Result<Option<NextJob>, OutOfMemory>
+    ensures { IfOk result (λ o. o ≡ next_job_in (seat_at conn.0 seats.now.entries)) }
+{
+    let Some(seat) = seats.get(conn) else {
+        return Ok(None);
+    };
+    let Some(task) = seat.next_task()? else {
+        return Ok(None);
+    };
+    let user = Text::new(alloc, seat.user())?;
+    Ok(Some(NextJob { user, task }))
+}
+
+/// The place of the piece of the connection that is out.
+fn place(seats: &Seats, conn: ConnNo) -> u64
+    ensures { result ≡ place_in (seat_at conn.0 seats.now.entries) }
+{
+    let Some(seat) = seats.get(conn) else {
+        return 0;
+    };
+    match seat.job_place() {
+        Some(place) => place,
+        None => 0,
+    }
+}
+
+impl Node {
+    /// Takes the piece of a connection that waits longest. It is `None` exactly where the connection isn't live, a job of it is out, or no
+    /// piece waits, and then nothing changes.
+    pub fn take(&mut self, conn: ConnNo) -> Result<Option<Job>, OutOfMemory>
+        ensures no { self.new.no ≡ self.old.no }
+        ensures answer { IfOk result (λ j. is_some j ≡ can_take conn.0 (past self.old)) }
+        ensures ok { IfOk result (λ j. past self.new ≡ cond (is_some j) (Step.Take conn.0 ∷ past self.old) (past self.old)) }
+        ensures job { IfOk result (λ o. (j : JobState) → o ≡ Some j → (j.conn ≡ conn) × IsJob j self.new) }
+        ensures taken { TakesNone self.old self.new }
+        ensures err { OnErr result (ReadsSame self.old self.new) }
+    {
+        let next = next_job(&self.seats, self.alloc, conn)?;
+        let Some(next) = next else {
+            return Ok(None);
+        };
+        self.journal.reserve()?;
+        self.seats.take(conn);
+        self.journal.enter(Entry::Take { conn }, Beside::Nothing);
+        Ok(Some(Job {
+            alloc: self.alloc,
+            node: self.no,
+            conn,
+            place: place(&self.seats, conn),
+            user: next.user,
+            task: next.task,
+        }))
+    }
+}

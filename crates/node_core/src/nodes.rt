@@ -1,0 +1,96 @@
+ghost use Rattle.std.specs.Prelude.{◌≡◌, ◌≤◌, ◌+◌, ◌∷◌, [], ℕ, Some, false, ◌==◌, IfOk, MatchOption, length, slice_get};
+ghost use Rattle.cable_model.specs.Possible.{is_over};
+ghost use Rattle.cable_model.specs.Steps.{Step};
+ghost use Rattle.cable_model.specs.Transcript.{queued};
+ghost use Rattle.node_core.specs.Nodes.{line_on, past, taken_out};
+
+use crate::journals::Journal;
+use cable_base::{ConnNo, NodeNo, OutOfMemory, RowId};
+use cable_model::Entry;
+use node_outbox::{Out, Outboxes};
+use node_seats::Seats;
+use poll_turn::Cursor;
+use std::alloc::Global;
+use std::marker::Model;
+use subscriber_map::SubscriberMap;
+use turn_wants::Wants;
+
+/// One node. Its type keeps that its journal is legal, and that its connections, what is queued on them, their holds, the wants that turns
+/// are to take and where its listener stands are those of its journal.
+#[derive(Debug, Drop)]
+pub struct Node {
+    pub(crate) alloc: Global,
+    pub(crate) no: NodeNo,
+    pub(crate) journal: Journal,
+    pub(crate) seats: Seats,
+    pub(crate) outboxes: Outboxes,
+    pub(crate) cursor: Cursor,
+    pub(crate) holders: SubscriberMap,
+    pub(crate) wants: Wants,
+}
+
+impl Model for Node {
+    ghost use Rattle.node_core.specs.Nodes.{NodeState, Stands, HasTurnRoom};
+    ghost use Rattle.cable_model.specs.Journal.{past_of};
+
+    ghost Value = { NodeState };
+
+    ghost view = { λ n. record { no = n.no; kept = n.journal.kept; outs = n.outboxes } };
+
+    ghost invariant = { λ n. Stands (past_of n.journal.kept) n.seats.entries n.outboxes n.cursor n.holders n.wants.wanted n.wants.taken × HasTurnRoom (past_of n.journal.kept) n.journal };
+}
+
+impl Node {
+    /// A node of this number, whose listener begins behind the table's last row.
+    pub fn boot(alloc: Global, no: NodeNo, last: RowId) -> Result<Node, OutOfMemory>
+        ensures no { IfOk result (λ n. n.no ≡ no) }
+        ensures booted { IfOk result (λ n. past n ≡ Step.Boot last.0 ∷ []) }
+        ensures taken { IfOk result (λ n. (c : ℕ) → taken_out c n ≡ 0) }
+    {
+        let journal = Journal::begin(alloc, last)?;
+        Ok(Node {
+            alloc,
+            no,
+            journal,
+            seats: Seats::empty(alloc),
+            outboxes: Outboxes::empty(alloc),
+            cursor: Cursor::at(last),
+            holders: SubscriberMap::empty(alloc),
+            wants: Wants::empty(alloc),
+        })
+    }
+
+    /// Its log: an entry for each call that changed it, in order. It takes no memory.
+    pub fn log(&self) -> &[Entry]
+        ensures { result.now ≡ self.now.kept.log }
+    {
+        self.journal.entries()
+    }
+
+    /// How many entries its log has. It takes no memory.
+    pub fn log_len(&self) -> u64
+        ensures { result ≡ length self.now.kept.log }
+    {
+        self.journal.entries().len() as u64
+    }
+
+    /// Whether the number was opened here and is no longer live. It takes no memory.
+    pub fn is_over(&self, conn: ConnNo) -> bool
+        ensures { result ≡ is_over conn.0 (past self.now) }
+    {
+        self.seats.is_over(conn)
+    }
+
+    /// Takes out what was queued first on the connection. It is `None` exactly where all that was queued on it was taken out, or nothing
+    /// was. It takes no memory, and is no entry.
+    pub fn take_out(&mut self, conn: ConnNo) -> Option<Out>
+        ensures no { self.new.no ≡ self.old.no }
+        ensures kept { self.new.kept ≡ self.old.kept }
+        ensures out { MatchOption result (length (queued conn.0 (past self.old)) ≤ taken_out conn.0 self.old)
+            (λ out. slice_get (queued conn.0 (past self.old)) (taken_out conn.0 self.old) ≡ Some (line_on conn.0 out)) }
+        ensures taken { MatchOption result (taken_out conn.0 self.new ≡ taken_out conn.0 self.old) (λ _. taken_out conn.0 self.new ≡ taken_out conn.0 self.old + 1) }
+        ensures others { (c : ℕ) → (c == conn.0) ≡ false → taken_out c self.new ≡ taken_out c self.old }
+    {
+        self.outboxes.take_out(conn)
+    }
+}

@@ -1,0 +1,4 @@
+pub mod Making
+pub mod Putting
+pub mod Taking
+pub mod Rooms

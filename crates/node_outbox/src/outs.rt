@@ -1,0 +1,18 @@
+use cable_base::{ConnNo, Text};
+use cable_model::Note;
+
+/// What is queued on a connection.
+#[derive(Debug, PartialEq, Eq, Drop)]
+pub enum Out {
+    /// A text for its client.
+    Text(Text),
+    /// A note, which stands in the transcript and is never sent.
+    Note(Note),
+}
+
+/// What is to be queued, and on which connection.
+#[derive(Debug, PartialEq, Eq, Drop)]
+pub struct Queued {
+    pub conn: ConnNo,
+    pub out: Out,
+}

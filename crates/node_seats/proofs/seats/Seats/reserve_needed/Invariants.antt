@@ -1,0 +1,5 @@
+use Rattle.node_seats.proofs.Rooming.{Making}
+use Rattle.node_seats.proofs.seats.Seats.reserve_needed.Given as goal
+
+abbrev pub invariant-loop-number : goal.invariant-loop-number
+invariant-loop-number l = Making l.needed.entries l.number-iterator l.fn.self.entries l.self.entries

@@ -1,0 +1,129 @@
+-- The work of a job that is out stays that of its job while entries come that aren't its connection's own Take or Finish.
+use Rattle.std.proofs.Common.{◌≡◌, ℕ, ◌==◌, Bool, true, false, cond, not, List, [], ◌∷◌, Option, Some, None, refl, sym, ap, subst, ◌∙◌, arith}
+use Rattle.std.specs.Prelude.{is_some, ltb, option_map}
+use Rattle.std.proofs.lemmas.Bool.Decides.{nat_tests}
+use Rattle.cable_base.specs.declared.rows.Row.{Row}
+use Rattle.cable_json.specs.Commands.{command_of}
+use Rattle.cable_model.specs.declared.pieces.Piece.{Piece}
+use Rattle.cable_model.specs.declared.pieces.Piece.TheVariants as piece
+use Rattle.cable_model.specs.declared.plans.Task.{Task}
+use Rattle.cable_model.specs.Steps.{Step}
+use Rattle.cable_model.specs.Connection.{Conn, Planner}
+use Rattle.cable_model.specs.Plans.{Callbacks, task_of}
+use Rattle.cable_model.specs.Wants.{marks, turn_mark, user_of}
+use Rattle.cable_model.specs.Pieces.{Seat, seat, with_put, with_all, with_job, with_plan, deliver_puts}
+use Rattle.cable_model.specs.Possible.{has_job, is_opened, job_plan, planned}
+use Rattle.cable_model.specs.Promise.{AllWorked}
+use Rattle.cable_model.specs.Window.{job, finished}
+use Rattle.cable_model.proofs.JobsStay.{job-more, keeps_job, job-plan-stays, unopened-user}
+use Rattle.cable_model.proofs.Working.{Working, working}
+use Rattle.node_core.specs.Jobs.{task_out}
+use Rattle.replay_cli.specs.declared.outstanding.OutWork.{OutWork}
+use Rattle.replay_cli.specs.Sessions.{IsWorkOf, IsWorkAt}
+
+-- the job and its place are the same
+pub record SameJob (s t : Seat) : Type 0 where
+  pub taken : t.taken ≡ s.taken
+  pub done : t.done ≡ s.done
+  pub conn : t.conn ≡ s.conn
+  pub piece_is : has_job s ≡ true → job t ≡ job s
+
+same-self : (s : Seat) → SameJob s s
+same-self s = record { taken = refl; done = refl; conn = refl; piece_is = λ h. refl }
+
+same-more : (pl : Planner) (s : Seat) (rows : (sub want : ℕ) → List Row) (qs : List Piece) → Working pl s rows → SameJob s (with_all s qs)
+same-more pl s rows qs v = record { taken = refl; done = refl; conn = refl; piece_is = λ h. job-more pl s rows qs v h }
+
+same-if : (s t : Seat) (b : Bool) → SameJob s t → SameJob s (cond b t s)
+same-if s t true h = h
+same-if s t false h = same-self s
+
+same-unless : (s t : Seat) (b : Bool) → not b ≡ true → SameJob s (cond b t s)
+same-unless s t true h = absurd cc
+same-unless s t false h = same-self s
+
+-- an Open leaves the seat as it is
+pub seat-stays : (pl : Planner) (c : ℕ) (e : Step) (past : List Step) → AllWorked pl c past → keeps_job c e ≡ true → SameJob (seat c past) (seat c (e ∷ past))
+seat-stays pl c (Step.Boot last) past a h = same-self (seat c past)
+seat-stays pl c (Step.Open d token user) past a h = same-self (seat c past)
+seat-stays pl c (Step.In d text) past a h =
+    same-if (seat c past) (with_put (seat c past) (piece.Cmd (command_of text))) (d == c)
+    (same-more pl (seat c past) (λ s w. finished c s w past) (piece.Cmd (command_of text) ∷ []) (working pl c past a))
+seat-stays pl c (Step.Drop d) past a h =
+    same-if (seat c past) (with_put (seat c past) piece.Gone) (d == c) (same-more pl (seat c past) (λ s w. finished c s w past) (piece.Gone ∷ []) (working pl c past a))
+seat-stays pl c Step.Stop past a h =
+    same-if (seat c past) (with_put (seat c past) piece.Restart) (is_some (user_of c past))
+    (same-more pl (seat c past) (λ s w. finished c s w past) (piece.Restart ∷ []) (working pl c past a))
+seat-stays pl c (Step.Take d) past a h = same-unless (seat c past) (with_job (seat c past)) (d == c) h
+seat-stays pl c (Step.Finish d puts plan) past a h = same-unless (seat c past) (with_plan (seat c past) plan) (d == c) h
+seat-stays pl c (Step.Ask turn) past a h = same-self (seat c past)
+seat-stays pl c (Step.Deliver turn note) past a h = by-failed note.failed
+  where
+    now : Seat
+    now = with_all (seat c past) (deliver_puts (user_of c past) (marks c past) (turn_mark c note past) (seat c past).conn.subs note.rows)
+
+    by-failed : (b : Bool) → SameJob (seat c past) (cond b (seat c past) now)
+    by-failed true = same-self (seat c past)
+    by-failed false =
+        same-more pl (seat c past) (λ s w. finished c s w past) (deliver_puts (user_of c past) (marks c past) (turn_mark c note past) (seat c past).conn.subs note.rows) (working pl c past a)
+seat-stays pl c (Step.Beat now) past a h = same-self (seat c past)
+
+pub has-stays : (s t : Seat) → SameJob s t → has_job t ≡ has_job s
+has-stays s t same = ap (λ n. ltb n t.taken) same.done ∙ ap (λ n. ltb s.done n) same.taken
+
+-- what the job needs
+abbrev task_at : Seat → Option Task
+task_at s = cond (has_job s) (option_map (task_of s.conn) (job s)) None
+
+task-stays : (s t : Seat) → SameJob s t → task_at t ≡ task_at s
+task-stays s t same = by-out (has_job s) refl
+  where
+    by-out : (b : Bool) → has_job s ≡ b → task_at t ≡ task_at s
+    by-out true b =
+        ap (λ x. cond x (option_map (task_of t.conn) (job t)) None) (has-stays s t same)
+        ∙ ap (λ (k : Conn). cond (has_job s) (option_map (task_of k) (job t)) None) same.conn
+        ∙ ap (λ (p : Option Piece). cond (has_job s) (option_map (task_of s.conn) p) None) (same.piece_is b)
+    by-out false b =
+        ap (λ x. cond x (option_map (task_of t.conn) (job t)) None) (has-stays s t same ∙ b) ∙ sym (ap (λ x. cond x (option_map (task_of s.conn) (job s)) None) b)
+
+module _ (r : Callbacks) (c : ℕ) (past now : List Step) (same : SameJob (seat c past) (seat c now)) where
+  work-moves : (o : Option OutWork) → ((k : OutWork) → o ≡ Some k → job_plan r c now ≡ job_plan r c past) → IsWorkAt r c past o → IsWorkAt r c now o
+  work-moves None plan h = has-stays (seat c past) (seat c now) same ∙ h
+  work-moves (Some k) plan h = record {
+    conn = h.conn;
+    node = h.node;
+    place = h.place ∙ sym same.taken;
+    task = task-stays (seat c past) (seat c now) same ∙ h.task;
+    plan = plan k refl ∙ h.plan;
+    puts = h.puts;
+  }
+
+pub work-stays : (pl : Planner) (r : Callbacks) (c : ℕ) (e : Step) (past : List Step) (o : Option OutWork) → AllWorked pl c past → keeps_job c e ≡ true → IsWorkAt r c past o → IsWorkAt r c (e ∷ past) o
+work-stays pl r c e past o a keeps h = work-moves r c past (e ∷ past) (seat-stays pl c e past a keeps) o (λ k at. job-plan-stays pl r c e past a keeps) h
+
+-- a job's connection has a user
+pub no-plan : (r : Callbacks) (c : ℕ) (past : List Step) → user_of c past ≡ None → job_plan r c past ≡ None
+no-plan r c past u = by-out (has_job (seat c past)) (user_of c past) u
+  where
+    by-out : (b : Bool) (o : Option (List ℕ)) → o ≡ None → cond b (planned r o (seat c past).conn (job (seat c past))) None ≡ None
+    by-out true None e = refl
+    by-out false o e = refl
+    by-out true (Some user) e = absurd cc
+
+pub work-opens : (r : Callbacks) (c d : ℕ) (token : List ℕ) (user : Option (List ℕ)) (past : List Step) (o : Option OutWork) → is_opened d past ≡ false → IsWorkAt r c past o
+    → IsWorkAt r c (Step.Open d token user ∷ past) o
+work-opens r c d token user past o free h = work-moves r c past (Step.Open d token user ∷ past) (same-self (seat c past)) o plan-is h
+  where
+    plan-is : (k : OutWork) → o ≡ Some k → job_plan r c (Step.Open d token user ∷ past) ≡ job_plan r c past
+    plan-is k at = by-test (d == c) refl
+      where
+        out : IsWorkOf r c past k.work
+        out = subst (IsWorkAt r c past) at h
+
+        by-test : (b : Bool) → (d == c) ≡ b
+            → cond (has_job (seat c past)) (planned r (cond b user (user_of c past)) (seat c past).conn (job (seat c past))) None ≡ job_plan r c past
+        by-test true e =
+            let same : d ≡ c = grind (arith, nat_tests) in
+            let none = no-plan r c past (unopened-user c past (subst (λ x. is_opened x past ≡ false) same free)) in
+            absurd (let p = out.plan in cc (none, p))
+        by-test false e = refl

@@ -1,0 +1,6 @@
+pub mod Counted
+mod Owned
+pub mod Wishing
+mod Putting
+pub mod Placing
+pub mod Confirmed
