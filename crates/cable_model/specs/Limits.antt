@@ -1,5 +1,6 @@
 -- The limits of a session.
-use Rattle.std.specs.Prelude.{ℕ, ◌-◌, ◌^◌}
+use Rattle.std.specs.Prelude.{ℕ, ◌-◌, ◌^◌, ◌≤◌, List, length}
+use Rattle.cable_base.specs.Squeeze.{IsSqueezedJson}
 
 -- bytes of a command's text
 abbrev pub most_text : ℕ
@@ -32,3 +33,9 @@ most_payload = 1048576
 -- rows that a read gives at most: as many as there are, until reads are paged
 abbrev pub page_rows : ℕ
 page_rows = 2 ^ 64 - 1
+
+-- a name and a payload that can be committed as a row: within the limits, and the payload is squeezed JSON
+pub record CanBeRow (channel payload : List ℕ) : Type 0 where
+  pub channel_len : length channel ≤ most_name
+  pub payload_len : length payload ≤ most_payload
+  pub message : IsSqueezedJson payload

@@ -1,4 +1,5 @@
 ghost use Rattle.std.specs.Prelude.{◌≡◌, IfOk};
+ghost use Rattle.cable_model.specs.Wants.{makes};
 
 use crate::notes::Note;
 use cable_base::{Copied, Listed, Name, OutOfMemory, Text};
@@ -120,6 +121,18 @@ pub enum Change {
 }
 
 impl Change {
+    /// How many wants it makes.
+    pub fn wants_made(&self) -> u64
+        ensures { result ≡ makes self.now }
+    {
+        match self {
+            Change::Add { streams, .. } | Change::Streams { streams, .. } => {
+                streams.as_slice().len() as u64
+            }
+            Change::Nothing | Change::Remove { .. } | Change::Close => 0,
+        }
+    }
+
     /// An equal change of its own.
     pub fn copy(&self, alloc: Global) -> Result<Change, OutOfMemory>
         ensures { IfOk result (λ c. c ≡ self.now) }

@@ -1,14 +1,21 @@
 -- The broadcasts of several answers, walked one answer after another.
-use Rattle.std.proofs.Common.{ℕ, ◌+◌, ◌≡◌, ◌<◌, List, [], ◌∷◌, ◌++◌, length, map, get_or, take, Some, None, Option, Result, refl, ap, sym, ◌∙◌, append_assoc}
-use Rattle.std.specs.List.{flat_map}
+use Rattle.std.proofs.Common.{ℕ, ◌+◌, ◌≡◌, ◌<◌, Bool, true, false, cond, List, [], ◌∷◌, ◌++◌, length, map, get_or, take, ltb, is_none, Some, None, Option, Result, Ok, Err, refl, ap, sym, subst, ◌∙◌, append_assoc}
+use Rattle.std.specs.List.{All, flat_map}
+use Rattle.std.specs.Prelude.{slice_index_or}
+use Rattle.std.proofs.lemmas.Bool.{ltb-false}
 use Rattle.std.proofs.lemmas.List.{append-nil, map-append, take_more}
-use Rattle.std.proofs.lemmas.List.Elements.{filter-append, filter_map-append}
+use Rattle.std.proofs.lemmas.List.Elements.{All-append, All-filter, All-nil, filter-append, filter_map-append, filter_passes}
 use Rattle.std.proofs.lemmas.Grind.{flat_map-append}
+use Rattle.cable_base.specs.Names.{is_reserved}
+use Rattle.cable_base.specs.Squeeze.{IsSqueezedJson}
+use Rattle.channel_book.specs.Calls.{SpeaksJson}
 use Rattle.channel_book.specs.declared.answers.Answer.{Answer}
 use Rattle.channel_book.specs.declared.answers.Cast.{Cast}
 use Rattle.channel_book.specs.declared.answers.CallFault.{CallFault}
 use Rattle.cable_model.specs.declared.notes.Note.{Note}
+use Rattle.cable_model.specs.Limits.{CanBeRow, most_name, most_payload}
 use Rattle.cable_model.specs.Plans.{cast_note, kept_casts, cast_notes, casts_left, notes_left}
+use Rattle.conn_core.specs.Payloads.{AreCommittable}
 
 pub kept_append : (xs ys : List Cast) → kept_casts (xs ++ ys) ≡ kept_casts xs ++ kept_casts ys
 kept_append xs ys = filter-append _ xs ys
@@ -39,3 +46,38 @@ notes-more f xs i x old new l e o n =
 pub faults-more : (f : List ℕ → Result Answer CallFault) (xs : List (List ℕ)) (i : ℕ) (x : List ℕ) (old new : List Note) → i < length xs → x ≡ get_or xs i x
     → old ≡ flat_map notes_left (map f (take i xs)) → new ≡ old ++ notes_left (f x) → new ≡ flat_map notes_left (map f (take (i + 1) xs))
 faults-more f xs i x old new l e o n = n ∙ (ap (λ ns. ns ++ notes_left (f x)) o ∙ sym (more notes_left f xs i x l e))
+
+-- ---- what is kept can be committed
+
+-- a broadcast without a note is within the limits
+unnoted : (r n p : Bool) (a b c : Note) → is_none (cond r (Some a) (cond n (Some b) (cond p (Some c) None))) ≡ true → (n ≡ false) × (p ≡ false)
+unnoted true n p a b c e = absurd cc
+unnoted false true p a b c e = absurd cc
+unnoted false false true a b c e = absurd cc
+unnoted false false false a b c e = (refl, refl)
+
+can-be-row : (c : Cast) → is_none (cast_note c) ≡ true → IsSqueezedJson c.payload → CanBeRow c.channel c.payload
+can-be-row c e json =
+    let within = unnoted (is_reserved c.channel) (ltb most_name (length c.channel)) (ltb most_payload (length c.payload)) _ _ _ e in
+    record { channel_len = ltb-false _ _ within.0; payload_len = ltb-false _ _ within.1; message = json }
+
+pub kept_committable : (casts : List Cast) → All (λ (c : Cast). IsSqueezedJson c.payload) casts → AreCommittable (kept_casts casts)
+kept_committable casts json =
+    λ k d l. can-be-row (slice_index_or (kept_casts casts) k d) (filter_passes (λ c. is_none (cast_note c)) casts k d l) (All-filter (λ c. is_none (cast_note c)) (λ (c : Cast). IsSqueezedJson c.payload) casts json k d l)
+
+pub both_committable : (xs ys : List Cast) → AreCommittable xs → AreCommittable ys → AreCommittable (xs ++ ys)
+both_committable xs ys = All-append (λ (c : Cast). CanBeRow c.channel c.payload) xs ys
+
+pub none_committable : AreCommittable []
+none_committable = All-nil (λ (c : Cast). CanBeRow c.channel c.payload)
+
+-- those of an answer, where none was kept before
+pub first_committable : (casts old new : List Cast) → old ≡ [] → new ≡ old ++ kept_casts casts → All (λ (c : Cast). IsSqueezedJson c.payload) casts → AreCommittable new
+first_committable casts old new none e json = subst AreCommittable (sym (e ∙ ap (λ cs. cs ++ kept_casts casts) none)) (kept_committable casts json)
+
+-- what an answer of `unsubscribed` leaves
+pub left_committable : (left : Result Answer CallFault) (answer : Answer) → left ≡ Ok answer → SpeaksJson answer → AreCommittable (kept_casts (casts_left left))
+left_committable left answer e json = subst (λ (r : Result Answer CallFault). AreCommittable (kept_casts (casts_left r))) (sym e) (kept_committable answer.casts json.casts)
+
+pub more_committable : (old more new : List Cast) → AreCommittable old → new ≡ old ++ more → AreCommittable more → AreCommittable new
+more_committable old more new h e m = subst AreCommittable (sym e) (both_committable old more h m)

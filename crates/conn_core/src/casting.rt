@@ -1,6 +1,7 @@
 ghost use Rattle.std.specs.Prelude.{◌≡◌, ◌++◌, [], ◌∷◌, IfOk, OnOk, MatchResult};
 ghost use Rattle.channel_book.specs.declared.answers.CallFault.TheVariants as call_fault;
 ghost use Rattle.cable_model.specs.Plans.{cast_note, kept_casts, cast_notes, fault_notes, casts_left, notes_left};
+ghost use Rattle.conn_core.specs.Payloads.{AreCommittable};
 
 use crate::limits::{MOST_NAME, MOST_PAYLOAD, is_reserved};
 use cable_base::{Listed, OutOfMemory};
@@ -83,6 +84,7 @@ impl Casts {
         ensures kept { OnOk result (self.new.kept ≡ self.old.kept ++ kept_casts (casts_left (C.unsubscribed_of callbacks.now user.now identifier.now))) }
         ensures notes { OnOk result (self.new.notes ≡ self.old.notes ++ cast_notes (casts_left (C.unsubscribed_of callbacks.now user.now identifier.now))) }
         ensures faults { OnOk result (self.new.faults ≡ self.old.faults ++ notes_left (C.unsubscribed_of callbacks.now user.now identifier.now)) }
+        ensures rows { OnOk result (AreCommittable (kept_casts (casts_left (C.unsubscribed_of callbacks.now user.now identifier.now)))) }
     {
         match callbacks.unsubscribed(alloc, user, identifier) {
             Ok(answer) => self.add(answer.casts),

@@ -18,6 +18,7 @@ pub use connections::Conn;
 pub use laws::{changes_are_steps, places_are_marks, plans_are_the_rules, plans_can_be_applied};
 pub use planning::plan;
 pub use subscriptions::Sub;
+pub use walking::among;
 
 #[cfg(test)]
 mod tests;

@@ -1,8 +1,9 @@
-ghost use Rattle.std.specs.Prelude.{◌≡◌, ◌++◌, [], ◌∷◌, map, IfOk, OnOk};
+ghost use Rattle.std.specs.Prelude.{◌≡◌, ◌++◌, [], ◌∷◌, map, All, IfOk, OnOk};
 ghost use Rattle.cable_base.specs.Squeeze.{IsSqueezedJson};
 ghost use Rattle.channel_book.specs.Calls.{SpeaksJson};
+ghost use Rattle.channel_book.specs.declared.answers.Cast.{Cast};
 ghost use Rattle.cable_model.specs.Plans.{noted, said_only, kept_casts, cast_notes, casts_left, notes_left, rejection, confirmation, acceptance, subscribe_plan, unsubscribe_plan, perform_plan, close_plan, last_words, new_streams, plan_for};
-ghost use Rattle.conn_core.specs.Payloads.{CarriesJson};
+ghost use Rattle.conn_core.specs.Payloads.{AreCommittable, CarriesJson};
 
 use crate::casting::{Casts, fault_note};
 use crate::saying::says;
@@ -15,7 +16,8 @@ use std::alloc::Global;
 
 /// The plan that does nothing.
 fn nothing(alloc: Global) -> Plan
-    ensures { result ≡ noted [] }
+    ensures plan { result ≡ noted [] }
+    ensures casts { AreCommittable result.casts }
 {
     Plan {
         texts: Listed::empty(alloc),
@@ -26,7 +28,8 @@ fn nothing(alloc: Global) -> Plan
 }
 
 fn noting(alloc: Global, note: Note) -> Result<Plan, OutOfMemory>
-    ensures { IfOk result (λ p. p ≡ noted (note ∷ [])) }
+    ensures plan { IfOk result (λ p. p ≡ noted (note ∷ [])) }
+    ensures casts { IfOk result (λ p. AreCommittable p.casts) }
 {
     let mut plan = nothing(alloc);
     plan.notes.push(note)?;
@@ -34,7 +37,8 @@ fn noting(alloc: Global, note: Note) -> Result<Plan, OutOfMemory>
 }
 
 fn texting(alloc: Global, text: Text) -> Result<Plan, OutOfMemory>
-    ensures { IfOk result (λ p. p ≡ said_only (text ∷ [])) }
+    ensures plan { IfOk result (λ p. p ≡ said_only (text ∷ [])) }
+    ensures casts { IfOk result (λ p. AreCommittable p.casts) }
 {
     let mut plan = nothing(alloc);
     plan.texts.push(text)?;
@@ -66,7 +70,9 @@ fn casting_both<C: Callbacks>(
     user: &str,
     callbacks: &C,
 ) -> Result<(Listed<Cast>, Listed<Note>), OutOfMemory>
+    requires json { All (λ (c : Cast). IsSqueezedJson c.payload) casts }
     ensures casts { IfOk result (λ parts. parts.0 ≡ kept_casts (casts ++ casts_left (C.unsubscribed_of callbacks.now user.now identifier.now))) }
+    ensures rows { IfOk result (λ parts. AreCommittable parts.0) }
     ensures notes { IfOk result (λ parts. parts.1 ≡ why ++ cast_notes (casts ++ casts_left (C.unsubscribed_of callbacks.now user.now identifier.now)) ++ notes_left (C.unsubscribed_of callbacks.now user.now identifier.now)) }
 {
     let mut walked = Casts::behind(alloc, why);
@@ -85,7 +91,8 @@ fn rejecting<C: Callbacks>(
     callbacks: &C,
 ) -> Result<Plan, OutOfMemory>
     requires { SpeaksJson answer }
-    ensures { IfOk result (λ p. p ≡ rejection why identifier.now answer (C.unsubscribed_of callbacks.now user.now identifier.now)) }
+    ensures plan { IfOk result (λ p. p ≡ rejection why identifier.now answer (C.unsubscribed_of callbacks.now user.now identifier.now)) }
+    ensures casts { IfOk result (λ p. AreCommittable p.casts) }
 {
     let Answer {
         says: sayings,
@@ -112,7 +119,8 @@ fn accepting(
 ) -> Result<Plan, OutOfMemory>
     requires json { SpeaksJson answer }
     requires wanted { wanted ≡ new_streams [] answer.streams }
-    ensures { IfOk result (λ p. p ≡ acceptance identifier.now answer) }
+    ensures plan { IfOk result (λ p. p ≡ acceptance identifier.now answer) }
+    ensures casts { IfOk result (λ p. AreCommittable p.casts) }
 {
     let Answer {
         streams,
@@ -142,7 +150,8 @@ fn subscribing<C: Callbacks>(
     user: &str,
     callbacks: &C,
 ) -> Result<Plan, OutOfMemory>
-    ensures { IfOk result (λ p. p ≡ subscribe_plan identifier.now (C.subscribed_of callbacks.now user.now identifier.now) (C.unsubscribed_of callbacks.now user.now identifier.now)) }
+    ensures plan { IfOk result (λ p. p ≡ subscribe_plan identifier.now (C.subscribed_of callbacks.now user.now identifier.now) (C.unsubscribed_of callbacks.now user.now identifier.now)) }
+    ensures casts { IfOk result (λ p. AreCommittable p.casts) }
 {
     let answer = match callbacks.subscribed(alloc, user, identifier) {
         Ok(answer) => answer,
@@ -168,7 +177,8 @@ fn unsubscribing<C: Callbacks>(
     user: &str,
     callbacks: &C,
 ) -> Result<Plan, OutOfMemory>
-    ensures { IfOk result (λ p. p ≡ unsubscribe_plan identifier.now (C.unsubscribed_of callbacks.now user.now identifier.now)) }
+    ensures plan { IfOk result (λ p. p ≡ unsubscribe_plan identifier.now (C.unsubscribed_of callbacks.now user.now identifier.now)) }
+    ensures casts { IfOk result (λ p. AreCommittable p.casts) }
 {
     let mut walked = Casts::behind(alloc, Listed::empty(alloc));
     walked.leave(alloc, identifier, user, callbacks)?;
@@ -191,7 +201,8 @@ fn performed(
     answer: Answer,
 ) -> Result<Plan, OutOfMemory>
     requires { SpeaksJson answer }
-    ensures { IfOk result (λ p. p ≡ perform_plan identifier.now streams.now (Ok answer)) }
+    ensures plan { IfOk result (λ p. p ≡ perform_plan identifier.now streams.now (Ok answer)) }
+    ensures casts { IfOk result (λ p. AreCommittable p.casts) }
 {
     let Answer {
         streams: asked,
@@ -224,7 +235,8 @@ fn performing<C: Callbacks>(
     user: &str,
     callbacks: &C,
 ) -> Result<Plan, OutOfMemory>
-    ensures { IfOk result (λ p. p ≡ perform_plan identifier.now streams.now (C.performed_of callbacks.now user.now identifier.now payload.now)) }
+    ensures plan { IfOk result (λ p. p ≡ perform_plan identifier.now streams.now (C.performed_of callbacks.now user.now identifier.now payload.now)) }
+    ensures casts { IfOk result (λ p. AreCommittable p.casts) }
 {
     match callbacks.perform(alloc, user, identifier, payload) {
         Ok(answer) => performed(alloc, identifier, streams, answer),
@@ -254,7 +266,8 @@ fn closing<C: Callbacks>(
     user: &str,
     callbacks: &C,
 ) -> Result<Plan, OutOfMemory>
-    ensures { IfOk result (λ p. p ≡ close_plan how (map (C.unsubscribed_of callbacks.now user.now) identifiers.now)) }
+    ensures plan { IfOk result (λ p. p ≡ close_plan how (map (C.unsubscribed_of callbacks.now user.now) identifiers.now)) }
+    ensures casts { IfOk result (λ p. AreCommittable p.casts) }
 {
     let mut walked = Casts::behind(alloc, Listed::empty(alloc));
     for identifier in identifiers {
@@ -278,7 +291,8 @@ pub fn plan<C: Callbacks>(
     callbacks: &C,
 ) -> Result<Plan, OutOfMemory>
     requires { CarriesJson task.now }
-    ensures { IfOk result (λ p. p ≡ plan_for (record { identify = C.user_of callbacks.now; subscribed = C.subscribed_of callbacks.now; unsubscribed = C.unsubscribed_of callbacks.now; perform = C.performed_of callbacks.now }) user.now task.now) }
+    ensures plan { IfOk result (λ p. p ≡ plan_for (record { identify = C.user_of callbacks.now; subscribed = C.subscribed_of callbacks.now; unsubscribed = C.unsubscribed_of callbacks.now; perform = C.performed_of callbacks.now }) user.now task.now) }
+    ensures casts { IfOk result (λ p. AreCommittable p.casts) }
 {
     match task {
         Task::Nothing => Ok(nothing(alloc)),

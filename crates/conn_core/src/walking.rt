@@ -14,7 +14,8 @@ pub struct Walk {
     pub notes: Listed<Note>,
 }
 
-fn among(names: &[Name], name: &str) -> bool
+/// Whether the name is one of these.
+pub fn among(names: &[Name], name: &str) -> bool
     ensures { result ≡ among names.now name.now }
 {
     names.iter().any(|n| n.as_str() == name)

@@ -58,18 +58,6 @@ fn is_closing(piece: &Piece) -> bool
     matches!(piece, Piece::Remote { .. } | Piece::Gone | Piece::Restart)
 }
 
-/// How many wants a change makes.
-fn wants_made(change: &Change) -> u64
-    ensures { result ≡ makes change.now }
-{
-    match change {
-        Change::Add { streams, .. } | Change::Streams { streams, .. } => {
-            streams.as_slice().len() as u64
-        }
-        Change::Nothing | Change::Remove { .. } | Change::Close => 0,
-    }
-}
-
 impl Seat {
     /// A connection of this user on which nothing was put.
     pub fn open(alloc: Global, user: &str) -> Result<Seat, OutOfMemory>
@@ -259,7 +247,7 @@ impl Seat {
         ensures numbers { OnOk result (self.new.made + makes plan.now.change < 2 ^ 64 - 1) }
         ensures err { OnErr result (self.new ≡ self.old) }
     {
-        if wants_made(&plan.change) >= u64::MAX - self.made {
+        if plan.change.wants_made() >= u64::MAX - self.made {
             return Err(OutOfMemory);
         }
         self.conn.reserve(plan)
@@ -277,7 +265,7 @@ impl Seat {
         strike(&mut self.inbox, self.conn.subs(), &plan.change);
         self.conn
             .apply(plan, SubNo(taken.place), WantNo(self.made + 1));
-        self.made += wants_made(&plan.change);
+        self.made += plan.change.wants_made();
     }
 
     /// Gives the want of the subscription its mark: from now on its stream is held. `false` where that subscription doesn't stand or has

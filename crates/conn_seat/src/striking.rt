@@ -8,15 +8,9 @@ ghost use Rattle.conn_seat.specs.Seats.{Strikes};
 
 use cable_base::Name;
 use cable_model::Change;
-use conn_core::Sub;
+use conn_core::{Sub, among};
 use run_queue::Inbox;
 use stream_set::StreamEntry;
-
-fn among(names: &[Name], name: &str) -> bool
-    ensures { result ≡ among names.now name.now }
-{
-    names.iter().any(|n| n.as_str() == name)
-}
 
 /// Strikes the rows for the stream, where it stops.
 fn strike_stream(inbox: &mut Inbox, stream: &StreamEntry, stops: &[Name])

@@ -22,7 +22,8 @@ use Rattle.subscriber_map.specs.HoldMaps.{HoldMap, holds_at}
 use Rattle.turn_wants.proofs.Wishing.{wished-ask, wished-missed}
 use Rattle.node_core.specs.Journals.{JournalState}
 use Rattle.node_core.specs.Nodes.{NodeState, Stands, HasTurnRoom, IsAt, past}
-use Rattle.node_core.specs.Turned.{IsNextTurn, is_expected, note_in}
+use Rattle.node_core.specs.Turned.{IsNextTurn, is_expected}
+use Rattle.poll_turn.specs.Notes.{note_in}
 use Rattle.node_core.proofs.Queueing.{quiet}
 
 -- ---- an ask

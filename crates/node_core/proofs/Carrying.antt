@@ -1,7 +1,7 @@
 -- The payloads of the rows that wait on connections are squeezed JSON, since those of the rows that turns brought are.
-use Rattle.std.proofs.Common.{◌≡◌, ℕ, zero, suc, ◌-◌, ◌==◌, ◌&&◌, Bool, true, false, cond, List, [], ◌∷◌, ◌++◌, Option, Some, None, Ok, Err, refl, sym, ap, subst, ◌∙◌}
+use Rattle.std.proofs.Common.{◌≡◌, ℕ, zero, suc, ◌-◌, ◌==◌, ◌&&◌, Bool, true, false, cond, List, [], ◌∷◌, ◌++◌, Option, Some, None, Ok, Err, refl, subst}
 use Rattle.std.specs.Prelude.{⊤, is_some, option_map, slice_get, bytes_eq}
-use Rattle.std.specs.List.{All, AllByRecursion}
+use Rattle.std.specs.List.{AllByRecursion}
 use Rattle.std.proofs.lemmas.List.Elements.{recursion_from_All}
 use Rattle.cable_base.specs.declared.rows.Row.{Row}
 use Rattle.cable_base.specs.Squeeze.{IsSqueezedJson}
@@ -11,22 +11,19 @@ use Rattle.cable_json.specs.declared.commands.CommandFault.{CommandFault}
 use Rattle.cable_json.specs.declared.commands.CommandFault.TheVariants as command_fault
 use Rattle.cable_json.specs.Commands.{command_of}
 use Rattle.cable_json.specs.Disconnects.{disconnect_of}
-use Rattle.cable_model.specs.declared.journals.ReadNote.{ReadNote}
 use Rattle.cable_model.specs.declared.pieces.Piece.{Piece}
 use Rattle.cable_model.specs.declared.pieces.Piece.TheVariants as piece
 use Rattle.cable_model.specs.declared.notes.Note.TheVariants as note
 use Rattle.cable_model.specs.declared.plans.Task.{Task}
 use Rattle.cable_model.specs.declared.plans.Task.TheVariants as task
 use Rattle.cable_model.specs.Connection.{Want, Sub, Conn}
-use Rattle.cable_model.specs.Limits.{most_subscriptions}
-use Rattle.cable_model.specs.Pieces.{Seat, seat, closing, put, put_all, hold_puts, sub_puts, own_puts, remote_put, row_puts, rows_puts, confirm_puts, deliver_puts, takes_now, below, row_piece, with_job, with_plan, with_all}
+use Rattle.cable_model.specs.Pieces.{seat, closing, put, put_all, hold_puts, sub_puts, own_puts, remote_put, row_puts, rows_puts, confirm_puts, deliver_puts, takes_now, below, row_piece, with_job, with_plan, with_all}
 use Rattle.cable_model.specs.Plans.{task_of, fault_task, subscribe_task, unsubscribe_task, perform_task, row_task, confirm_task, sub_named, sub_numbered}
 use Rattle.cable_model.specs.Possible.{has_job}
 use Rattle.cable_model.specs.Steps.{Step}
 use Rattle.cable_model.specs.Wants.{Mark, marks, mark_of, turn_mark, user_of}
 use Rattle.cable_model.specs.Window.{job}
 use Rattle.conn_core.specs.Payloads.{CarriesJson}
-use Rattle.poll_turn.specs.Turns.{AreMessages}
 use Rattle.node_core.specs.Jobs.{task_out}
 use Rattle.node_core.specs.Nodes.{BringsMessages}
 

@@ -1,5 +1,5 @@
 -- A node that delivers what a turn found goes on standing for its journal.
-use Rattle.std.proofs.Common.{◌≡◌, ◌+◌, ◌-◌, ℕ, true, false, cond, List, ◌∷◌, ◌++◌, drop, take, Some, refl, sym, ap, ◌∙◌}
+use Rattle.std.proofs.Common.{◌≡◌, ℕ, true, false, cond, List, ◌∷◌, ◌++◌, drop, take, Some, refl, sym, ap, ◌∙◌}
 use Rattle.cable_base.specs.declared.numbers.NodeNo.{NodeNo}
 use Rattle.cable_model.specs.declared.journals.ReadNote.{ReadNote}
 use Rattle.cable_model.specs.declared.pieces.Piece.{Piece}
@@ -27,7 +27,7 @@ use Rattle.turn_wants.proofs.Confirmed.{turn-confirms}
 use Rattle.turn_wants.proofs.Placing.{turn-places}
 use Rattle.turn_wants.proofs.Wishing.{wished-found}
 use Rattle.node_core.specs.Nodes.{Stands}
-use Rattle.node_core.specs.Turned.{note_in}
+use Rattle.poll_turn.specs.Notes.{note_in}
 use Rattle.node_core.proofs.Asking.{Expected}
 use Rattle.node_core.proofs.Queueing.{quiet}
 use Rattle.node_core.proofs.Telling.{worked}

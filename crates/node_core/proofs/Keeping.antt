@@ -1,5 +1,5 @@
 -- A log that grows by an entry is the journal with this entry laid on it.
-use Rattle.std.proofs.Common.{◌≡◌, ℕ, List, [], ◌∷◌, ◌++◌, length, Result, Ok, Err, IsOk, IfOk, OnOk, refl, arith}
+use Rattle.std.proofs.Common.{◌≡◌, List, [], ◌∷◌, ◌++◌, length, Result, Ok, Err, IsOk, IfOk, OnOk, refl, arith}
 use Rattle.cable_model.specs.declared.journals.Beside.{Beside}
 use Rattle.cable_model.specs.declared.journals.Entry.{Entry}
 use Rattle.cable_model.specs.Journal.{laid, step_of}

@@ -11,3 +11,7 @@ pub mod Finishes
 pub mod TakingOut
 pub mod Carrying
 pub mod TakingJobs
+pub mod Refreshing
+pub mod StayingReady
+pub mod TakingNext
+pub mod Drained

@@ -1,5 +1,5 @@
 -- What is queued goes on being what the journal says.
-use Rattle.std.proofs.Common.{◌≡◌, ◌≤◌, ◌+◌, ℕ, List, [], ◌∷◌, ◌++◌, map, filter, drop, length, Option, Some, None, refl, sym, ap, subst, ◌∙◌, arith}
+use Rattle.std.proofs.Common.{◌≡◌, ◌≤◌, ℕ, List, ◌++◌, map, drop, length, sym, ap, subst, ◌∙◌, arith}
 use Rattle.std.proofs.lemmas.List.{map-append, drop-append-le, length-append}
 use Rattle.cable_model.specs.declared.lines.Line.{Line}
 use Rattle.cable_model.specs.Steps.{Step}
@@ -20,13 +20,17 @@ quiet c past now outs same h =
       left = h.left ∙ ap (drop (taken_at c outs)) (sym same);
     }
 
+-- the same is queued, and as many were taken out
+pub unmoved : (past : List Step) (v new : OutboxesState) → AreQueued past v → ((c : ℕ) → queue_at c new ≡ queue_at c v) → ((c : ℕ) → taken_at c new ≡ taken_at c v) → AreQueued past new
+unmoved past v new h queue taken c =
+    record {
+      within = subst (λ (n : ℕ). n ≤ length (queued c past)) (sym (taken c)) (h c).within;
+      left = ap (map (line_on c)) (queue c) ∙ (h c).left ∙ ap (λ (n : ℕ). drop n (queued c past)) (sym (taken c));
+    }
+
 -- room that is made plays no part
 pub roomier : (past : List Step) (v new : OutboxesState) → AreQueued past v → Roomier v new → AreQueued past new
-roomier past v new h r c =
-    record {
-      within = subst (λ (n : ℕ). n ≤ length (queued c past)) (sym (r.taken c)) (h c).within;
-      left = ap (map (line_on c)) (r.queue c) ∙ (h c).left ∙ ap (λ (n : ℕ). drop n (queued c past)) (sym (r.taken c));
-    }
+roomier past v new h r = unmoved past v new h r.queue r.taken
 
 -- the entry queues these behind the others
 pub says : (c : ℕ) (past now : List Step) (v new : OutboxesState) (more : List Queued) → IsQueued c past v → Queues more v new → queued c now ≡ queued c past ++ lines_on c more → IsQueued c now new

@@ -1,6 +1,6 @@
 -- What a node keeps goes on standing for its journal, entry by entry. Here are a Beat and an Open, which queue texts.
 use Rattle.std.proofs.Common.{◌≡◌, ◌≤◌, ℕ, ◌==◌, Bool, true, false, cond, List, [], ◌∷◌, ◌++◌, map, Option, Some, None, refl, sym, ap, subst, ◌∙◌}
-use Rattle.std.specs.Prelude.{ltb, length}
+use Rattle.std.specs.Prelude.{ltb}
 use Rattle.std.specs.List.{list_any, IsDistinct}
 use Rattle.std.specs.Map.{keys_of}
 use Rattle.std.specs.Ordering.{nat_cmp, eq_by_cmp}
@@ -13,8 +13,7 @@ use Rattle.cable_model.specs.Possible.{opened, is_opened, is_receiving, live_cou
 use Rattle.cable_model.specs.Steps.{Step}
 use Rattle.cable_model.specs.Transcript.{queued, ping_line, conn_line, greeting}
 use Rattle.node_outbox.specs.declared.outs.Out.TheVariants as out
-use Rattle.node_outbox.specs.declared.outs.Queued.{Queued}
-use Rattle.node_outbox.specs.Outboxes.{OutboxesState, Queues, Roomier, HasRoomFor, room_at, outs_for}
+use Rattle.node_outbox.specs.Outboxes.{OutboxesState, Queues, Roomier, HasRoomFor, room_at}
 use Rattle.node_seats.specs.declared.turning.Wanted.{Wanted}
 use Rattle.node_seats.specs.Numbers.{Numbers, Rising, receiving_among}
 use Rattle.node_seats.specs.AreSeats.{AreSeats}

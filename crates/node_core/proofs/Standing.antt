@@ -1,17 +1,16 @@
 -- What a node keeps goes on standing for its journal, entry by entry. Here are the entries that queue nothing, and room that is made.
-use Rattle.std.proofs.Common.{◌≡◌, ◌<◌, ◌≤◌, ◌+◌, ℕ, Bool, true, false, List, [], ◌∷◌, Option, Some, None, refl, sym, ap, subst, ◌∙◌, arith}
+use Rattle.std.proofs.Common.{◌≡◌, ◌≤◌, ◌+◌, ℕ, true, false, List, [], ◌∷◌, Some, None, refl, sym, subst, ◌∙◌, arith}
 use Rattle.std.specs.FinMap as maps
 use Rattle.cable_base.specs.declared.numbers.RowId.{RowId}
 use Rattle.cable_json.specs.Commands.{command_of}
 use Rattle.cable_model.specs.declared.pieces.Piece.TheVariants as piece
 use Rattle.cable_model.specs.Journal.{Kept, past_of}
-use Rattle.cable_model.specs.Legal.{Legal, LegalStep}
-use Rattle.cable_model.specs.Possible.{can_drop, is_out, last_turn, is_booted, can_take}
+use Rattle.cable_model.specs.Legal.{LegalStep}
+use Rattle.cable_model.specs.Possible.{can_drop, is_out, last_turn, can_take}
 use Rattle.cable_model.specs.Steps.{Step}
-use Rattle.cable_model.specs.Transcript.{queued}
 use Rattle.cable_model.specs.Wants.{lower}
 use Rattle.conn_seat.specs.Seats.{Seated, Becomes, with_piece, with_taken, may_take_now}
-use Rattle.node_holds.specs.Held.{AreHeld, is_steady}
+use Rattle.node_holds.specs.Held.{is_steady}
 use Rattle.node_outbox.specs.Outboxes.{OutboxesState, Roomier, queue_at, taken_at}
 use Rattle.node_seats.specs.declared.opened.Opened.TheVariants as kept
 use Rattle.node_seats.specs.declared.turning.Wanted.{Wanted}
@@ -23,10 +22,10 @@ use Rattle.node_seats.proofs.Entries.{texts, drops, rooms, takes}
 use Rattle.node_seats.proofs.Opening.{stops}
 use Rattle.poll_turn.specs.Turns.{CursorState}
 use Rattle.subscriber_map.specs.HoldMaps.{HoldMap}
-use Rattle.turn_wants.specs.Wished.{AreWished, is_plain}
+use Rattle.turn_wants.specs.Wished.{is_plain}
 use Rattle.node_core.specs.Arriving.{text_fault}
 use Rattle.node_core.specs.Journals.{JournalState}
-use Rattle.node_core.specs.Nodes.{Stands, IsAt, IsQueued, AreQueued, HasTurnRoom, BringsMessages}
+use Rattle.node_core.specs.Nodes.{Stands, IsQueued, AreQueued, HasTurnRoom, BringsMessages}
 use Rattle.node_holds.proofs.Staying.{held-boot, held-steady}
 use Rattle.turn_wants.proofs.Wishing.{wished-boot, wished-plain}
 use Rattle.node_core.proofs.Queueing.{quiet, roomier}

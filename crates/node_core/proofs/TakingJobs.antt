@@ -1,6 +1,6 @@
 -- A piece that is taken from a connection is the job that is out on it, as the journal has it.
-use Rattle.std.proofs.Common.{◌≡◌, ℕ, ◌-◌, Bool, true, false, cond, not, ◌&&◌, List, [], ◌∷◌, Option, Some, None, refl, sym, ap, subst, ◌∙◌}
-use Rattle.std.specs.Prelude.{is_some, option_map, slice_get}
+use Rattle.std.proofs.Common.{◌≡◌, ℕ, Bool, true, false, cond, not, ◌&&◌, List, [], ◌∷◌, Option, Some, None, refl, sym, ap, subst, ◌∙◌}
+use Rattle.std.specs.Prelude.{is_some, option_map}
 use Rattle.cable_model.specs.declared.pieces.Piece.{Piece}
 use Rattle.cable_model.specs.declared.plans.Task.{Task}
 use Rattle.cable_base.specs.declared.numbers.ConnNo.{ConnNo}
@@ -20,8 +20,8 @@ use Rattle.conn_seat.specs.Tasks.{task_in, first_of, next_task_of, task_out_of}
 use Rattle.conn_seat.proofs.Answering.{answers}
 use Rattle.node_seats.specs.declared.opened.Opened.{Opened}
 use Rattle.node_seats.specs.declared.opened.Opened.TheVariants as kept
-use Rattle.node_seats.specs.Numbers.{Numbers, Moves, Lives, opened_at, seat_at, seat_in, with_opened}
-use Rattle.node_seats.specs.AreSeats.{AreSeats, AreWorked, IsOpened}
+use Rattle.node_seats.specs.Numbers.{Numbers, Moves, Lives, opened_at, seat_at, seat_in}
+use Rattle.node_seats.specs.AreSeats.{AreSeats, AreWorked}
 use Rattle.node_seats.proofs.Entries.{live, takes}
 use Rattle.node_seats.proofs.Lookups.{found-there}
 use Rattle.node_seats.proofs.Onward.{used-is}
@@ -94,7 +94,7 @@ takes-first v may = by-list v.waiting refl
 takes-nothing : (v : Seated) → may_take_now v ≡ false → next_task_of v ≡ None
 takes-nothing v may = ap (λ (b : Bool). cond b (option_map (task_in v) (first_of v.waiting)) None) may
 
-next-if : (v : Seated) → is_some (next_job_in (Some v)) ≡ may_take_now v
+pub next-if : (v : Seated) → is_some (next_job_in (Some v)) ≡ may_take_now v
 next-if v = by-test (may_take_now v) refl
   where
     as_job : Task → NextJob

@@ -2,7 +2,6 @@
 use Rattle.std.proofs.Common.{◌≡◌, ◌≤◌, ◌+◌, ℕ, zero, suc, ◌==◌, Bool, true, false, List, [], ◌∷◌, map, drop, length, Option, Some, None, refl, sym, ap, subst, ◌∙◌, arith}
 use Rattle.std.specs.Prelude.{slice_get, MatchOption}
 use Rattle.std.proofs.lemmas.Bool.Decides.{nat_tests}
-use Rattle.cable_model.specs.declared.lines.Line.{Line}
 use Rattle.cable_model.specs.Steps.{Step}
 use Rattle.cable_model.specs.Transcript.{queued}
 use Rattle.node_outbox.specs.declared.outs.Out.{Out}
@@ -24,7 +23,8 @@ next (suc t) (x ∷ xs) y ys e =
     let w = n.within in
     record { rest = n.rest; first = n.first; within = omega (arith, w) }
 
-none-behind : {A : Type 0} (t : ℕ) (xs : List A) → [] ≡ drop t xs → length xs ≤ t
+-- nothing stands behind the first `t`
+pub none-behind : {A : Type 0} (t : ℕ) (xs : List A) → [] ≡ drop t xs → length xs ≤ t
 none-behind zero [] e = omega arith
 none-behind (suc t) [] e = omega arith
 none-behind zero (x ∷ xs) e = absurd cc

@@ -1,20 +1,18 @@
 -- What is kept of a number tells what the journal says of it.
-use Rattle.std.proofs.Common.{◌≡◌, ℕ, ◌==◌, Bool, true, false, cond, not, ◌&&◌, List, [], ◌∷◌, length, Option, Some, None, Result, Ok, Err, IfErr, refl, sym, ap, ◌∙◌}
-use Rattle.std.specs.Prelude.{is_some, leb, ltb}
+use Rattle.std.proofs.Common.{◌≡◌, ℕ, Bool, true, false, cond, not, ◌&&◌, List, Option, Some, None, Result, Ok, Err, IfErr, refl, sym, ap, ◌∙◌}
+use Rattle.std.specs.Prelude.{is_some, leb}
 use Rattle.cable_model.specs.Legal.{Legal, stored_plans}
-use Rattle.cable_model.specs.Limits.{most_connections}
 use Rattle.cable_model.specs.Pieces.{seat, closing}
-use Rattle.cable_model.specs.Possible.{is_opened, is_live, is_receiving, is_too_long, is_busy, live_count, can_put_command}
+use Rattle.cable_model.specs.Possible.{is_opened, is_live, is_receiving, is_too_long, is_busy, can_put_command}
 use Rattle.cable_model.specs.Steps.{Step}
-use Rattle.cable_model.specs.Wants.{user_of}
 use Rattle.cable_model.proofs.JobsStay.{unopened-user}
 use Rattle.cable_model.proofs.Stored.{stored-works}
 use Rattle.conn_seat.specs.Seats.{Seated}
 use Rattle.conn_seat.proofs.Answering.{answers}
 use Rattle.node_seats.specs.declared.opened.Opened.{Opened}
 use Rattle.node_seats.specs.declared.opened.Opened.TheVariants as kept
-use Rattle.node_seats.specs.Numbers.{Numbers, opened_at, seat_at, seat_in, is_receiving_in}
-use Rattle.node_seats.specs.AreSeats.{AreSeats, AreWorked, IsOpened}
+use Rattle.node_seats.specs.Numbers.{Numbers, opened_at, seat_at, seat_in}
+use Rattle.node_seats.specs.AreSeats.{AreSeats, AreWorked}
 use Rattle.node_seats.proofs.Onward.{used-is}
 use Rattle.node_seats.proofs.Counting.{live-is, receiving-is}
 use Rattle.node_core.specs.declared.arriving.ArriveFault.{ArriveFault}

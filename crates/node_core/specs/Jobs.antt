@@ -1,9 +1,8 @@
 -- A job that was taken from a node, its work, and when the node can finish it.
-use Rattle.std.specs.Prelude.{◌≡◌, ◌≤◌, ◌==◌, ℕ, Bool, cond, List, [], length, Option, None, Some, option_map}
+use Rattle.std.specs.Prelude.{◌≡◌, ◌≤◌, ℕ, cond, List, [], length, Option, None, Some, option_map}
 use Rattle.cable_base.specs.declared.numbers.ConnNo.{ConnNo}
 use Rattle.cable_base.specs.declared.numbers.NodeNo.{NodeNo}
 use Rattle.cable_base.specs.declared.numbers.RowId.{RowId}
-use Rattle.cable_model.specs.declared.pieces.Piece.{Piece}
 use Rattle.cable_model.specs.declared.plans.Plan.{Plan}
 use Rattle.cable_model.specs.declared.plans.Task.{Task}
 use Rattle.cable_model.specs.Pieces.{seat}
@@ -12,6 +11,7 @@ use Rattle.cable_model.specs.Possible.{has_job}
 use Rattle.cable_model.specs.Steps.{Step}
 use Rattle.cable_model.specs.Wants.{user_of}
 use Rattle.cable_model.specs.Window.{job}
+use Rattle.conn_core.specs.Payloads.{AreCommittable}
 use Rattle.conn_seat.specs.Seats.{Seated, place_of}
 use Rattle.conn_seat.specs.Tasks.{next_task_of}
 use Rattle.node_core.specs.declared.jobs.NextJob.{NextJob}
@@ -74,10 +74,12 @@ pub record Fits (w : WorkState) (n : NodeState) : Type 0 where
   pub out : IsWorkOut w n
   pub done : length w.puts ≡ length w.plan.casts
 
--- the plan is what the rules make of the task, for some user and some answers of the callbacks. Each noted commit is one of a cast of it, and there is room to note the others
+-- the plan is what the rules make of the task, for some user and some answers of the callbacks. Each of its casts can be committed. Each noted commit is one of a cast of it, and there is
+-- room to note the others
 pub record IsWork (t : Task) (plan : Plan) (puts : List (Option RowId)) (capacity : ℕ) : Type 0 where
   pub callbacks : Callbacks
   pub user : List ℕ
   pub planned : plan ≡ plan_for callbacks user t
+  pub casts : AreCommittable plan.casts
   pub noted : length puts ≤ length plan.casts
   pub room : length plan.casts ≤ capacity

@@ -5,3 +5,6 @@ pub mod Turned
 pub mod Opening
 pub mod Arriving
 pub mod Finishing
+pub mod Serving
+pub mod Forgetting
+pub mod Desks

@@ -1,25 +1,26 @@
--- What a node is: its journal, and how many of the texts and notes of each connection were taken out. All else that it keeps is what the
--- journal says.
-use Rattle.std.specs.Prelude.{◌≡◌, ◌<◌, ◌≤◌, ◌/◌, ℕ, true, List, [], ◌∷◌, length, map, drop}
+-- What a node is: its journal, how many of the texts and notes of each connection were taken out, and in which order connections are served.
+-- All else that it keeps is what the journal says.
+use Rattle.std.specs.Prelude.{◌≡◌, ◌<◌, ◌≤◌, ◌/◌, ℕ, Bool, true, List, [], ◌∷◌, ◌++◌, length, map, filter, drop}
 use Rattle.cable_base.specs.declared.numbers.ConnNo.{ConnNo}
 use Rattle.cable_base.specs.declared.numbers.NodeNo.{NodeNo}
 use Rattle.cable_json.specs.Texts.{ping_text}
 use Rattle.cable_model.specs.declared.lines.Line.{Line}
 use Rattle.cable_model.specs.Journal.{Kept, past_of}
 use Rattle.cable_model.specs.Legal.{Legal}
-use Rattle.cable_model.specs.Possible.{is_booted, is_out, last_turn}
+use Rattle.cable_model.specs.Possible.{can_take, is_booted, is_out, last_turn}
 use Rattle.cable_model.specs.Steps.{Step}
 use Rattle.cable_model.specs.Transcript.{conn_line, conn_note, queued}
 use Rattle.cable_model.specs.Wants.{lower}
 use Rattle.node_outbox.specs.declared.outs.Out.{Out}
 use Rattle.node_outbox.specs.declared.outs.Out.TheVariants as out
 use Rattle.node_outbox.specs.declared.outs.Queued.{Queued}
-use Rattle.node_outbox.specs.Outboxes.{OutboxesState, queue_at, taken_at}
+use Rattle.node_outbox.specs.Outboxes.{OutboxesState, forgotten_at, queue_at, taken_at}
 use Rattle.node_holds.specs.Held.{AreHeld}
 use Rattle.node_seats.specs.declared.turning.Wanted.{Wanted}
-use Rattle.node_seats.specs.Numbers.{Numbers}
+use Rattle.node_seats.specs.Numbers.{Numbers, may_take_at}
 use Rattle.node_seats.specs.AreSeats.{AreSeats}
 use Rattle.poll_turn.specs.Turns.{CursorState, AreMessages}
+use Rattle.run_queue.specs.ReadyLists.{has_number}
 use Rattle.subscriber_map.specs.HoldMaps.{HoldMap}
 use Rattle.turn_wants.specs.Wished.{AreWished}
 use Rattle.node_core.specs.Journals.{JournalState}
@@ -28,6 +29,8 @@ pub record NodeState : Type 0 where
   pub no : NodeNo
   pub kept : Kept
   pub outs : OutboxesState
+  -- the connections of which a piece can be taken, first in, first out
+  pub ready : List ConnNo
 
 -- the journal of a node
 abbrev pub past : NodeState → List Step
@@ -36,6 +39,10 @@ past n = past_of n.kept
 -- how many of what was queued on c were taken out
 abbrev pub taken_out : ℕ → NodeState → ℕ
 taken_out c n = taken_at c n.outs
+
+-- c was forgotten: what was kept of its queue is gone
+abbrev pub is_forgotten : ℕ → NodeState → Bool
+is_forgotten c n = forgotten_at c n.outs
 
 -- what is queued on c, as a line of it
 abbrev pub line_on : ℕ → Out → Line
@@ -79,14 +86,34 @@ pub record Stands (past : List Step) (seats : Numbers) (outs : OutboxesState) (c
   pub held : AreHeld past holds
   pub wished : AreWished past wants taken
 
+-- the ready ones are exactly those of which a piece may be taken
+abbrev pub AreReady : Numbers → List ConnNo → Type 0
+AreReady v ready = (c : ConnNo) → has_number c ready ≡ may_take_at c.0 v
+
 -- nothing was taken out
 abbrev pub TakesNone : NodeState → NodeState → Type 0
 TakesNone old new = (c : ℕ) → taken_out c new ≡ taken_out c old
 
--- nothing happened: the journal is as before, and nothing was taken out
+-- none was forgotten, and each that was still is
+abbrev pub ForgetsNone : NodeState → NodeState → Type 0
+ForgetsNone old new = (c : ℕ) → is_forgotten c new ≡ is_forgotten c old
+
+-- those that stay ready stay in their order, in front of those that become ready
+abbrev pub ServedInOrder : NodeState → NodeState → Type 0
+ServedInOrder old new = (more : List ConnNo) × (new.ready ≡ filter (λ (c : ConnNo). can_take c.0 (past new)) old.ready ++ more)
+
+-- what each call keeps, whatever it enters
+pub record GoesOn (old new : NodeState) : Type 0 where
+  pub taken : TakesNone old new
+  pub forgotten : ForgetsNone old new
+  pub served : ServedInOrder old new
+
+-- nothing happened: the journal is as before, nothing was taken out, none was forgotten, and the same are ready
 pub record ReadsSame (old new : NodeState) : Type 0 where
   pub kept : new.kept ≡ old.kept
   pub taken : TakesNone old new
+  pub forgotten : ForgetsNone old new
+  pub ready : new.ready ≡ old.ready
 
 -- a ping tells whole seconds
 abbrev pub ping_of : (now : ℕ) → ConnNo → Queued

@@ -1,5 +1,5 @@
 -- When a connection can be opened on a node, and what is kept of it.
-use Rattle.std.specs.Prelude.{◌≡◌, ℕ, true, false, cond, List, Option, None, Some, ltb, Result, Err, IfErr}
+use Rattle.std.specs.Prelude.{◌≡◌, ℕ, cond, List, Option, None, Some, ltb, Result, Err, IfErr}
 use Rattle.cable_model.specs.Limits.{most_connections}
 use Rattle.cable_model.specs.Possible.{is_opened, live_count}
 use Rattle.cable_model.specs.Steps.{Step}

@@ -1,7 +1,6 @@
 -- The turns of a node's listener, as its journal has them.
-use Rattle.std.specs.Prelude.{◌≡◌, ◌==◌, ◌&&◌, ℕ, ℤ, suc, Bool, List, map}
+use Rattle.std.specs.Prelude.{◌≡◌, ◌==◌, ◌&&◌, ℤ, suc, Bool, map}
 use Rattle.cable_base.specs.Hash.{channel_hash_of}
-use Rattle.cable_model.specs.declared.journals.ReadNote.{ReadNote}
 use Rattle.cable_model.specs.History.{held_names}
 use Rattle.cable_model.specs.Possible.{is_out, last_turn}
 use Rattle.cable_model.specs.Table.{contains}
@@ -19,7 +18,3 @@ pub record IsNextTurn (t : TurnState) (n : NodeState) : Type 0 where
 -- it was caught for the turn of this node that is out
 abbrev pub is_expected : CaughtState → NodeState → Bool
 is_expected k n = is_out (past n) && (k.node.0 == n.no.0 && (k.number == last_turn (past n) && k.lower.0 == lower (past n)))
-
--- what was caught, as a note
-abbrev pub note_in : CaughtState → ReadNote
-note_in k = record { failed = k.is_missed; lower = k.lower; upto = k.upto; last = k.last; rows = k.rows }

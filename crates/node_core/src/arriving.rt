@@ -3,11 +3,12 @@ ghost use Rattle.cable_json.specs.Commands.{command_of};
 ghost use Rattle.cable_model.specs.declared.pieces.Piece.TheVariants as piece;
 ghost use Rattle.cable_model.specs.Possible.{can_drop};
 ghost use Rattle.cable_model.specs.Steps.{Step};
-ghost use Rattle.node_core.specs.Nodes.{past, ReadsSame, TakesNone};
+ghost use Rattle.node_core.specs.Nodes.{GoesOn, past, ReadsSame};
 ghost use Rattle.node_seats.specs.Numbers.{seat_at};
 ghost use Rattle.node_core.specs.Arriving.{RefusesText, fault_at, receiving_at, text_fault};
 
 use crate::nodes::Node;
+use crate::serving::{refresh, refresh_all};
 use cable_base::{ConnNo, OutOfMemory, Text};
 use cable_json::{CommandFault, read_command};
 use cable_model::{Beside, Entry, Piece};
@@ -90,7 +91,7 @@ impl Node {
         ensures no { self.new.no ≡ self.old.no }
         ensures fault { RefusesText (text_fault conn.0 text.now (past self.old)) result }
         ensures ok { OnOk result (past self.new ≡ Step.In conn.0 text.now ∷ past self.old) }
-        ensures taken { TakesNone self.old self.new }
+        ensures goes { GoesOn self.old self.new }
         ensures err { OnErr result (ReadsSame self.old self.new) }
     {
         if let Some(fault) = text_fault(&self.seats, conn, text) {
@@ -105,13 +106,15 @@ impl Node {
         requires { text_fault conn.0 text.now (past self.old) ≡ None }
         ensures no { self.new.no ≡ self.old.no }
         ensures ok { OnOk result (past self.new ≡ Step.In conn.0 text.now ∷ past self.old) }
-        ensures taken { TakesNone self.old self.new }
+        ensures goes { GoesOn self.old self.new }
         ensures err { OnErr result (ReadsSame self.old self.new) }
     {
         let piece = command_piece(self.alloc, text)?;
         let text = Text::new(self.alloc, text)?;
+        self.ready.reserve(1)?;
         self.journal.reserve()?;
         self.seats.put(conn, piece)?;
+        refresh(&mut self.ready, &self.seats, conn);
         self.journal
             .enter(Entry::In { conn, text }, Beside::Nothing);
         Ok(())
@@ -124,14 +127,16 @@ impl Node {
         ensures answer { IfOk result (λ done. done ≡ can_drop conn.0 (past self.old)) }
         ensures ok { IfOk result (λ done. past self.new ≡ cond done (Step.Drop conn.0 ∷ past self.old) (past self.old)) }
         ensures same { IfOk result (λ done. done ≡ false → ReadsSame self.old self.new) }
-        ensures taken { TakesNone self.old self.new }
+        ensures goes { GoesOn self.old self.new }
         ensures err { OnErr result (ReadsSame self.old self.new) }
     {
         if !is_receiving(&self.seats, conn) {
             return Ok(false);
         }
+        self.ready.reserve(1)?;
         self.journal.reserve()?;
         self.seats.put(conn, Piece::Gone)?;
+        refresh(&mut self.ready, &self.seats, conn);
         self.journal.enter(Entry::Drop { conn }, Beside::Nothing);
         Ok(true)
     }
@@ -140,11 +145,14 @@ impl Node {
     pub fn stop(&mut self) -> Result<(), OutOfMemory>
         ensures no { self.new.no ≡ self.old.no }
         ensures ok { OnOk result (past self.new ≡ Step.Stop ∷ past self.old) }
-        ensures taken { TakesNone self.old self.new }
+        ensures goes { GoesOn self.old self.new }
         ensures err { OnErr result (ReadsSame self.old self.new) }
     {
+        let conns = self.seats.receiving(self.alloc)?;
+        self.ready.reserve(conns.len() as u64)?;
         self.journal.reserve()?;
         self.seats.stop();
+        refresh_all(&mut self.ready, &self.seats, &conns);
         self.journal.enter(Entry::Stop, Beside::Nothing);
         Ok(())
     }

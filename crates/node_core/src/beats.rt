@@ -2,7 +2,7 @@ ghost use Rattle.std.specs.Prelude.{◌≡◌, ◌/◌, ◌∷◌, ◌++◌, [],
 ghost use Rattle.cable_base.specs.declared.numbers.ConnNo.{ConnNo};
 ghost use Rattle.cable_model.specs.Possible.{receiving};
 ghost use Rattle.cable_model.specs.Steps.{Step};
-ghost use Rattle.node_core.specs.Nodes.{past, ping_of, ReadsSame, TakesNone};
+ghost use Rattle.node_core.specs.Nodes.{GoesOn, past, ping_of, ReadsSame};
 
 use crate::nodes::Node;
 use cable_base::{ConnNo, Millis, OutOfMemory};
@@ -38,7 +38,7 @@ impl Node {
     pub fn beat(&mut self, now: Millis) -> Result<(), OutOfMemory>
         ensures no { self.new.no ≡ self.old.no }
         ensures ok { OnOk result (past self.new ≡ Step.Beat now.0 ∷ past self.old) }
-        ensures taken { TakesNone self.old self.new }
+        ensures goes { GoesOn self.old self.new }
         ensures err { OnErr result (ReadsSame self.old self.new) }
     {
         let conns = self.seats.receiving(self.alloc)?;

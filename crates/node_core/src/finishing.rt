@@ -5,10 +5,11 @@ ghost use Rattle.node_outbox.specs.Outboxes.{HasRoomFor, Roomier};
 ghost use Rattle.node_seats.specs.Numbers.{Lives, Moves, Prepares, seat_at};
 ghost use Rattle.node_core.specs.Finishing.{IsOutIn, note_on, outs_of, text_on};
 ghost use Rattle.node_core.specs.Jobs.{Fits};
-ghost use Rattle.node_core.specs.Nodes.{past, ReadsSame, TakesNone};
+ghost use Rattle.node_core.specs.Nodes.{GoesOn, past, ReadsSame};
 
 use crate::journals::Journal;
 use crate::nodes::Node;
+use crate::serving::refresh;
 use crate::working::Work;
 use cable_base::{ConnNo, Listed, OutOfMemory, SubNo, Text};
 use cable_model::{Beside, Change, Entry, Note, Plan, Task};
@@ -25,18 +26,6 @@ fn is_out(seats: &Seats, conn: ConnNo, place: u64, task: &Task) -> bool
     match seats.get(conn) {
         Some(seat) => seat.job_place() == Some(place) && seat.is_task(task),
         None => false,
-    }
-}
-
-/// How many wants a change makes.
-fn wants_made(change: &Change) -> u64
-    ensures { result ≡ makes change.now }
-{
-    match change {
-        Change::Add { streams, .. } | Change::Streams { streams, .. } => {
-            streams.as_slice().len() as u64
-        }
-        Change::Nothing | Change::Remove { .. } | Change::Close => 0,
     }
 }
 
@@ -103,7 +92,7 @@ fn make_room(
 {
     let queued = outs_of(alloc, conn, plan)?;
     outboxes.reserve(conn, queued.len() as u64)?;
-    wants.reserve(wants_made(&plan.change))?;
+    wants.reserve(plan.change.wants_made())?;
     journal.reserve()?;
     seats.reserve_plan(conn, plan)?;
     Ok(queued)
@@ -129,10 +118,13 @@ impl Node {
         requires { Fits work self.old }
         ensures no { self.new.no ≡ self.old.no }
         ensures ok { OnOk result (past self.new ≡ Step.Finish work.conn.0 work.puts work.plan ∷ past self.old) }
-        ensures taken { TakesNone self.old self.new }
+        ensures goes { GoesOn self.old self.new }
         ensures token { IfErr result (λ w. w ≡ work) }
         ensures err { OnErr result (ReadsSame self.old self.new) }
     {
+        let Ok(()) = self.ready.reserve(1) else {
+            return Err(work);
+        };
         let Ok(queued) = make_room(
             self.alloc,
             work.conn,
@@ -159,6 +151,7 @@ impl Node {
         self.wants
             .put_change(conn, SubNo(place), seat, &plan.change);
         self.seats.finish(conn, &plan);
+        refresh(&mut self.ready, &self.seats, conn);
         self.outboxes.put_all(queued);
         let puts = Listed::of(puts);
         self.journal

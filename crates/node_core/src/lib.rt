@@ -3,20 +3,26 @@
 
 mod arriving;
 mod beats;
+mod desks;
 mod finishing;
+mod forgetting;
 mod jobs;
 mod journals;
 mod nodes;
 mod opening;
+mod serving;
 mod turns;
 mod working;
 
 pub use arriving::ArriveFault;
+pub use desks::{Desk, Ears};
 pub use jobs::Job;
 pub use nodes::Node;
 pub use opening::OpenFault;
 pub use working::Work;
 
+#[cfg(test)]
+mod serving_tests;
 #[cfg(test)]
 mod tests;
 #[cfg(test)]

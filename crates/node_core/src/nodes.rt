@@ -1,8 +1,8 @@
-ghost use Rattle.std.specs.Prelude.{◌≡◌, ◌≤◌, ◌+◌, ◌∷◌, [], ℕ, Some, false, ◌==◌, IfOk, MatchOption, length, slice_get};
-ghost use Rattle.cable_model.specs.Possible.{is_over};
+ghost use Rattle.std.specs.Prelude.{◌≡◌, ◌≤◌, ◌+◌, ◌∷◌, [], ℕ, Some, true, false, ◌==◌, IfOk, MatchOption, length, slice_get};
+ghost use Rattle.cable_model.specs.Possible.{can_take, is_over};
 ghost use Rattle.cable_model.specs.Steps.{Step};
 ghost use Rattle.cable_model.specs.Transcript.{queued};
-ghost use Rattle.node_core.specs.Nodes.{line_on, past, taken_out};
+ghost use Rattle.node_core.specs.Nodes.{is_forgotten, line_on, past, taken_out};
 
 use crate::journals::Journal;
 use cable_base::{ConnNo, NodeNo, OutOfMemory, RowId};
@@ -10,13 +10,15 @@ use cable_model::Entry;
 use node_outbox::{Out, Outboxes};
 use node_seats::Seats;
 use poll_turn::Cursor;
+use run_queue::Ready;
 use std::alloc::Global;
 use std::marker::Model;
 use subscriber_map::SubscriberMap;
 use turn_wants::Wants;
 
-/// One node. Its type keeps that its journal is legal, and that its connections, what is queued on them, their holds, the wants that turns
-/// are to take and where its listener stands are those of its journal.
+/// One node. Its type keeps that its journal is legal, that its connections, what is queued on them, their holds, the wants that turns are
+/// to take and where its listener stands are those of its journal, and that its ready connections are exactly those of which a piece can
+/// be taken.
 #[derive(Debug, Drop)]
 pub struct Node {
     pub(crate) alloc: Global,
@@ -27,25 +29,28 @@ pub struct Node {
     pub(crate) cursor: Cursor,
     pub(crate) holders: SubscriberMap,
     pub(crate) wants: Wants,
+    pub(crate) ready: Ready,
 }
 
 impl Model for Node {
-    ghost use Rattle.node_core.specs.Nodes.{NodeState, Stands, HasTurnRoom};
+    ghost use Rattle.node_core.specs.Nodes.{NodeState, Stands, HasTurnRoom, AreReady};
     ghost use Rattle.cable_model.specs.Journal.{past_of};
 
     ghost Value = { NodeState };
 
-    ghost view = { λ n. record { no = n.no; kept = n.journal.kept; outs = n.outboxes } };
+    ghost view = { λ n. record { no = n.no; kept = n.journal.kept; outs = n.outboxes; ready = n.ready.waiting } };
 
-    ghost invariant = { λ n. Stands (past_of n.journal.kept) n.seats.entries n.outboxes n.cursor n.holders n.wants.wanted n.wants.taken × HasTurnRoom (past_of n.journal.kept) n.journal };
+    ghost invariant = { λ n. Stands (past_of n.journal.kept) n.seats.entries n.outboxes n.cursor n.holders n.wants.wanted n.wants.taken × HasTurnRoom (past_of n.journal.kept) n.journal × AreReady n.seats.entries n.ready.waiting };
 }
 
 impl Node {
-    /// A node of this number, whose listener begins behind the table's last row.
+    /// A node of this number, whose listener begins behind the table's last row. None of its connections is forgotten.
     pub fn boot(alloc: Global, no: NodeNo, last: RowId) -> Result<Node, OutOfMemory>
         ensures no { IfOk result (λ n. n.no ≡ no) }
         ensures booted { IfOk result (λ n. past n ≡ Step.Boot last.0 ∷ []) }
         ensures taken { IfOk result (λ n. (c : ℕ) → taken_out c n ≡ 0) }
+        ensures ready { IfOk result (λ n. n.ready ≡ []) }
+        ensures none_forgotten { IfOk result (λ n. (c : ℕ) → is_forgotten c n ≡ false) }
     {
         let journal = Journal::begin(alloc, last)?;
         Ok(Node {
@@ -57,6 +62,7 @@ impl Node {
             cursor: Cursor::at(last),
             holders: SubscriberMap::empty(alloc),
             wants: Wants::empty(alloc),
+            ready: Ready::empty(alloc),
         })
     }
 
@@ -81,6 +87,15 @@ impl Node {
         self.seats.is_over(conn)
     }
 
+    /// The connection that is ready longest: `take_next` takes its piece. It is `None` exactly where of no connection a piece can be taken.
+    /// It takes no memory.
+    pub fn next_ready(&self) -> Option<ConnNo>
+        ensures first { result ≡ slice_get self.now.ready 0 }
+        ensures answer { MatchOption result ((c : ℕ) → can_take c (past self.now) ≡ false) (λ c. can_take c.0 (past self.now) ≡ true) }
+    {
+        self.ready.front()
+    }
+
     /// Takes out what was queued first on the connection. It is `None` exactly where all that was queued on it was taken out, or nothing
     /// was. It takes no memory, and is no entry.
     pub fn take_out(&mut self, conn: ConnNo) -> Option<Out>
@@ -90,6 +105,8 @@ impl Node {
             (λ out. slice_get (queued conn.0 (past self.old)) (taken_out conn.0 self.old) ≡ Some (line_on conn.0 out)) }
         ensures taken { MatchOption result (taken_out conn.0 self.new ≡ taken_out conn.0 self.old) (λ _. taken_out conn.0 self.new ≡ taken_out conn.0 self.old + 1) }
         ensures others { (c : ℕ) → (c == conn.0) ≡ false → taken_out c self.new ≡ taken_out c self.old }
+        ensures ready { self.new.ready ≡ self.old.ready }
+        ensures forgotten { (c : ℕ) → is_forgotten c self.new ≡ is_forgotten c self.old }
     {
         self.outboxes.take_out(conn)
     }

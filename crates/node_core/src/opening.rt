@@ -4,7 +4,7 @@ ghost use Rattle.cable_model.specs.Limits.{most_connections};
 ghost use Rattle.cable_model.specs.Steps.{Step};
 ghost use Rattle.cable_model.specs.Transcript.{greeting};
 ghost use Rattle.node_seats.specs.Numbers.{Rising, live_among, opened_at};
-ghost use Rattle.node_core.specs.Nodes.{past, ReadsSame, TakesNone};
+ghost use Rattle.node_core.specs.Nodes.{GoesOn, past, ReadsSame};
 ghost use Rattle.node_outbox.specs.declared.outs.Out.TheVariants as out;
 ghost use Rattle.turn_wants.specs.Wished.{own_wanted};
 ghost use Rattle.node_core.specs.Opening.{OpensAs, RefusesOpen, open_fault};
@@ -122,7 +122,7 @@ impl Node {
         ensures no { self.new.no ≡ self.old.no }
         ensures fault { RefusesOpen (open_fault conn.0 (past self.old)) result }
         ensures ok { OnOk result (past self.new ≡ Step.Open conn.0 token.now (C.user_of callbacks.now token.now) ∷ past self.old) }
-        ensures taken { OnOk result (TakesNone self.old self.new) }
+        ensures goes { OnOk result (GoesOn self.old self.new) }
         ensures err { OnErr result (ReadsSame self.old self.new) }
     {
         if self.seats.is_used(conn) {
@@ -145,7 +145,7 @@ impl Node {
         requires { open_fault conn.0 (past self.old) ≡ None }
         ensures no { self.new.no ≡ self.old.no }
         ensures ok { OnOk result (past self.new ≡ Step.Open conn.0 token.now (C.user_of callbacks.now token.now) ∷ past self.old) }
-        ensures taken { OnOk result (TakesNone self.old self.new) }
+        ensures goes { OnOk result (GoesOn self.old self.new) }
         ensures err { OnErr result (ReadsSame self.old self.new) }
     {
         let user = callbacks.identify(token);

@@ -115,6 +115,29 @@ fn refuses_each(node: &mut Node, book: &Book, long: &str) -> bool {
         && node.log_len() == 259
 }
 
+/// Forgets the connection, where it can be forgotten.
+fn forgets(node: &mut Node, conn: ConnNo) -> bool {
+    if !node.may_forget(conn) {
+        return false;
+    }
+    node.forget(conn);
+    true
+}
+
+fn forgets_the_refused_one(node: &mut Node, book: &Book) -> bool {
+    node.open_conn(ANN, "t1", book).is_ok()
+        && node.open_conn(NOBODY, "t2", book).is_ok()
+        && !forgets(node, NOBODY)
+        && gives(node, NOBODY, UNAUTHORIZED)
+        && gives(node, ANN, WELCOME)
+        && !forgets(node, ANN)
+        && forgets(node, NOBODY)
+        && !forgets(node, NOBODY)
+        && is_used(node, NOBODY, book)
+        && node.is_over(NOBODY)
+        && node.take_out(NOBODY).is_none()
+}
+
 /// Opens as many connections as a node takes.
 fn opens_all(node: &mut Node, book: &Book) -> bool {
     for number in 0..1_000 {
@@ -155,6 +178,14 @@ fn refuses_texts(rt: HostRuntime) -> Result<(), Fail> {
     let book = Book::read(rt.alloc(), BOOK)?;
     let mut node = Node::boot(rt.alloc(), NodeNo(1), RowId(0))?;
     assert!(rt; refuses_each(&mut node, &book, &long));
+    Ok(())
+}
+
+#[test]
+fn forgets_one(rt: HostRuntime) -> Result<(), Fail> {
+    let book = Book::read(rt.alloc(), BOOK)?;
+    let mut node = Node::boot(rt.alloc(), NodeNo(1), RowId(0))?;
+    assert!(rt; forgets_the_refused_one(&mut node, &book));
     Ok(())
 }
 

@@ -2,6 +2,7 @@ ghost use Rattle.std.specs.Prelude.{◌≡◌, ◌<◌, IfOk};
 ghost use Rattle.cable_base.specs.Squeeze.{IsSqueezedJson};
 
 use crate::Node;
+use crate::serving_tests::ends;
 use cable_base::{ConnNo, Millis, Name, NodeNo, OutOfMemory, Row, RowId, Steps, Text, squeeze};
 use cable_json::read_json;
 use channel_book::Book;
@@ -52,26 +53,9 @@ fn found(alloc: Global, turn: Turn, id: u64) -> Result<Caught, Turn> {
 
 /// Works the piece of the connection that waits longest. `false` where none waits.
 fn works(node: &mut Node, book: &Book) -> bool {
-    let Ok(Some(job)) = node.take(ANN) else {
-        return false;
-    };
-    let work = match job.plan(book) {
-        Ok(work) => work,
-        Err(job) => {
-            job.give_up();
-            return false;
-        }
-    };
-    if !node.fits(&work) {
-        work.give_up();
-        return false;
-    }
-    match node.finish(work) {
-        Ok(()) => true,
-        Err(work) => {
-            work.give_up();
-            false
-        }
+    match node.take(ANN) {
+        Ok(Some(job)) => ends(node, job, book),
+        Ok(None) | Err(_) => false,
     }
 }
 

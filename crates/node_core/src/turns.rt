@@ -1,4 +1,4 @@
-ghost use Rattle.std.specs.Prelude.{◌≡◌, ◌∷◌, ◌++◌, [], suc, true, false, cond, not, map, Some, is_some, IfOk, IfErr, OnOk, OnErr, IsOk};
+ghost use Rattle.std.specs.Prelude.{◌≡◌, ◌≤◌, ◌∷◌, ◌++◌, [], suc, true, false, cond, length, not, map, Some, is_some, IfOk, IfErr, OnOk, OnErr, IsOk};
 ghost use Rattle.cable_base.specs.Hash.{channel_hash_of};
 ghost use Rattle.cable_model.specs.Possible.{is_out, last_turn};
 ghost use Rattle.cable_model.specs.Steps.{Step};
@@ -6,15 +6,19 @@ ghost use Rattle.node_holds.specs.Holding.{AreNew, placings_of, rows_bring, with
 ghost use Rattle.node_seats.specs.Turned.{HasRoomFor, Roomier};
 ghost use Rattle.poll_turn.specs.Turns.{TurnState};
 ghost use Rattle.turn_wants.specs.Wants.{confirms_of};
-ghost use Rattle.node_core.specs.Nodes.{past, ReadsSame, TakesNone};
-ghost use Rattle.node_core.specs.Turned.{IsNextTurn, is_expected, note_in};
+ghost use Rattle.node_core.specs.Nodes.{GoesOn, past, ReadsSame};
+ghost use Rattle.node_core.specs.Serving.{conns_of};
+ghost use Rattle.node_core.specs.Turned.{IsNextTurn, is_expected};
+ghost use Rattle.poll_turn.specs.Notes.{note_in};
 
 use crate::nodes::Node;
-use cable_base::{Listed, Name, OutOfMemory, Row, Steps};
+use crate::serving::{conns_of, refresh_all};
+use cable_base::{ConnNo, Listed, Name, OutOfMemory, Row, Steps};
 use cable_model::{Beside, Entry, ReadNote};
 use node_holds::{add_rows, hold_all, placings};
 use node_seats::{Delivery, Seats, Wanted};
 use poll_turn::{Caught, Turn, channel_hash};
+use run_queue::Ready;
 use std::alloc::Global;
 use std::sync::ledger::Ledger;
 use subscriber_map::SubscriberMap;
@@ -56,31 +60,49 @@ fn note_with(caught: &Caught, rows: Listed<Row>) -> ReadNote
     }
 }
 
-/// What a turn that isn't missed brings: its note, and the pieces that it puts, for which room is made. The wants that it took are held.
+/// What a turn that isn't missed brings: its note, the pieces that it puts, and the connections that these are for.
+#[derive(Debug, Drop)]
+struct Brought {
+    note: ReadNote,
+    deliveries: Vec<Delivery>,
+    conns: Vec<ConnNo>,
+}
+
+/// What a turn that isn't missed brings. Room is made for it, and the wants that the turn took are held.
 fn bring<L: Ledger>(
     alloc: Global,
     caught: &Caught,
     taken: &[Wanted],
     seats: &mut Seats,
     holders: &mut SubscriberMap,
+    ready: &mut Ready,
     steps: &mut Steps<L>,
-) -> Result<(ReadNote, Vec<Delivery>), OutOfMemory>
+) -> Result<Brought, OutOfMemory>
     requires new { AreNew (placings_of seats.old.entries caught.now.last taken.now) holders.old }
-    ensures note { IfOk result (λ b. b.0 ≡ note_in caught.now) }
-    ensures pieces { IfOk result (λ b. b.1.items ≡ rows_bring holders.old caught.now.rows ++ confirms_of seats.old.entries taken.now) }
+    ensures note { IfOk result (λ b. b.note ≡ note_in caught.now) }
+    ensures pieces { IfOk result (λ b. b.deliveries.items ≡ rows_bring holders.old caught.now.rows ++ confirms_of seats.old.entries taken.now) }
     ensures seats { Roomier seats.old.entries seats.new.entries }
-    ensures room { IfOk result (λ b. HasRoomFor b.1.items seats.new.entries) }
+    ensures room { IfOk result (λ b. HasRoomFor b.deliveries.items seats.new.entries) }
     ensures held { OnOk result (holders.new ≡ with_placings (placings_of seats.old.entries caught.now.last taken.now) holders.old) }
     ensures err { OnErr result (holders.new ≡ holders.old) }
+    ensures conns { IfOk result (λ b. b.conns.items ≡ conns_of b.deliveries.items) }
+    ensures ready { ready.new.waiting ≡ ready.old.waiting }
+    ensures ready_room { IfOk result (λ b. length b.conns.items ≤ ready.new.spare) }
 {
     let note = note_with(caught, copied_rows(alloc, caught.rows())?);
     let mut deliveries = Vec::new(alloc);
     add_rows(&mut deliveries, alloc, holders, caught.rows(), steps)?;
     add_confirms(&mut deliveries, taken, seats)?;
     let placed = placings(alloc, taken, seats, caught.last())?;
+    let conns = conns_of(alloc, &deliveries)?;
+    ready.reserve(conns.len() as u64)?;
     seats.reserve_all(alloc, &deliveries)?;
     hold_all(holders, &placed)?;
-    Ok((note, deliveries))
+    Ok(Brought {
+        note,
+        deliveries,
+        conns,
+    })
 }
 
 impl Node {
@@ -91,7 +113,7 @@ impl Node {
         ensures answer { IfOk result (λ t. is_some t ≡ not (is_out (past self.old))) }
         ensures ok { IfOk result (λ t. past self.new ≡ cond (is_some t) (Step.Ask (suc (last_turn (past self.old))) ∷ past self.old) (past self.old)) }
         ensures turn { IfOk result (λ o. (t : TurnState) → o ≡ Some t → IsNextTurn t self.old) }
-        ensures taken { TakesNone self.old self.new }
+        ensures goes { GoesOn self.old self.new }
         ensures err { OnErr result (ReadsSame self.old self.new) }
     {
         if self.cursor.is_out() {
@@ -129,7 +151,7 @@ impl Node {
         requires { is_expected caught self.old ≡ true }
         ensures no { self.new.no ≡ self.old.no }
         ensures ok { OnOk result (past self.new ≡ Step.Deliver caught.number (note_in caught) ∷ past self.old) }
-        ensures taken { TakesNone self.old self.new }
+        ensures goes { GoesOn self.old self.new }
         ensures missed { caught.is_missed ≡ true → IsOk result }
         ensures token { IfErr result (λ k. k ≡ caught) }
         ensures err { OnErr result (ReadsSame self.old self.new) }
@@ -147,7 +169,7 @@ impl Node {
         requires missed { caught.is_missed ≡ true }
         ensures no { self.new.no ≡ self.old.no }
         ensures ok { past self.new ≡ Step.Deliver caught.number (note_in caught) ∷ past self.old }
-        ensures taken { TakesNone self.old self.new }
+        ensures goes { GoesOn self.old self.new }
     {
         let turn = caught.number();
         let note = note_with(&caught, Listed::empty(self.alloc));
@@ -163,23 +185,30 @@ impl Node {
         requires found { caught.is_missed ≡ false }
         ensures no { self.new.no ≡ self.old.no }
         ensures ok { OnOk result (past self.new ≡ Step.Deliver caught.number (note_in caught) ∷ past self.old) }
-        ensures taken { TakesNone self.old self.new }
+        ensures goes { GoesOn self.old self.new }
         ensures token { IfErr result (λ k. k ≡ caught) }
         ensures err { OnErr result (ReadsSame self.old self.new) }
     {
-        let Ok((note, deliveries)) = bring(
+        let Ok(brought) = bring(
             self.alloc,
             &caught,
             self.wants.taken(),
             &mut self.seats,
             &mut self.holders,
+            &mut self.ready,
             steps,
         ) else {
             return Err(caught);
         };
+        let Brought {
+            note,
+            deliveries,
+            conns,
+        } = brought;
         let turn = caught.number();
         self.seats.place_all(self.wants.taken(), caught.last());
         self.seats.put_all(deliveries);
+        refresh_all(&mut self.ready, &self.seats, &conns);
         self.cursor.close(caught);
         self.wants.drop_taken();
         self.journal

@@ -1,4 +1,5 @@
-ghost use Rattle.std.specs.Prelude.{◌≡◌, ◌<◌, ◌++◌, ◌∷◌, [], length, slice_get, option_copied};
+ghost use Rattle.std.specs.Prelude.{◌≡◌, ◌<◌, ◌++◌, ◌∷◌, [], length, slice_get, option_copied, IfSome};
+ghost use Rattle.cable_model.specs.Limits.{CanBeRow};
 ghost use Rattle.node_core.specs.Jobs.{WorkState};
 
 use cable_base::{ConnNo, NodeNo, RowId};
@@ -36,9 +37,11 @@ impl Work {
         self.conn
     }
 
-    /// The plan's first cast for which no commit was noted. `None` comes exactly where each was. It takes no memory.
+    /// The plan's first cast for which no commit was noted. It can be committed as a row. `None` comes exactly where each was. It takes no
+    /// memory.
     pub fn next_cast(&self) -> Option<&Cast>
-        ensures { option_copied result ≡ slice_get self.now.plan.casts (length self.now.puts) }
+        ensures cast { option_copied result ≡ slice_get self.now.plan.casts (length self.now.puts) }
+        ensures row { IfSome result (λ c. CanBeRow c.now.channel c.now.payload) }
     {
         self.plan.casts.as_slice().get(self.puts.len())
     }

@@ -48,7 +48,7 @@ placings-more v mark ws i d w before now all l at is all-is =
 
 -- ---- placings are added and taken back
 
-with-both : (xs ys : List Placing) (m : HoldMap) → with_placings (xs ++ ys) m ≡ with_placings ys (with_placings xs m)
+pub with-both : (xs ys : List Placing) (m : HoldMap) → with_placings (xs ++ ys) m ≡ with_placings ys (with_placings xs m)
 with-both [] ys m = refl
 with-both (x ∷ xs) ys m = with-both xs ys (with_hold_at m x.name x.hold)
 

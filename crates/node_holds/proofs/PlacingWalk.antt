@@ -23,6 +23,7 @@ use Rattle.node_holds.specs.Held.{conn_of, own_hold, sub_holds, is_on, holds_on}
 use Rattle.node_holds.specs.Holding.{name_wanted, name_in, placing_as, placings_of, with_placings, AreNew}
 use Rattle.node_holds.proofs.PlacingHolds.{holds-placed, placed-on, placed-off, IsOther, new-among, behind-all}
 use Rattle.node_holds.proofs.PlacingSubs.{Sits, Free, LiesAbove, subs-lie, hold_of, unplaced, newly-held, then-held, placed-sits, placed-free, placed-names, placed-above}
+use Rattle.node_holds.proofs.PlacingSteps.{with-both}
 
 -- these wants are numbered from n on, and the one numbered 0 alone is of no subscription
 abbrev pub Numbered : ℕ → List Wanted → Type 0
@@ -244,10 +245,6 @@ new-one c s n own subs mark w ws m b h = go (w.sub.0 == 0) refl (name_wanted w s
 
 -- ---- all wants of a turn
 
-with-joined : (xs ys : List Placing) (m : HoldMap) → with_placings (xs ++ ys) m ≡ with_placings ys (with_placings xs m)
-with-joined [] ys m = refl
-with-joined (x ∷ xs) ys m = with-joined xs ys (with_hold_at m x.name x.hold)
-
 new-joined : (xs ys : List Placing) (m : HoldMap) → AreNew xs m → AreNew ys (with_placings xs m) → AreNew (xs ++ ys) m
 new-joined [] ys m a b = b
 new-joined (x ∷ xs) ys m a b = (a.0, new-joined xs ys (with_hold_at m x.name x.hold) a.1 b)
@@ -301,7 +298,7 @@ pub all-placed : (v : Numbers) (mark : RowId) (c : ℕ) (s : Seated) (n : ℕ) (
     → holds_on c (holds_at (with_placings (placings_of v mark ws) m) r) ≡ own_hold c r (Some s.user) (own_after mark (wanted_by c ws) own) ++ sub_holds c r (placed_each mark (pairs_by c ws) subs)
 all-placed v mark c s n own subs [] m r e h = h.holds r
 all-placed v mark c s n own subs (w ∷ ws) m r e h =
-    ap (λ x. holds_on c (holds_at x r)) (with-joined (placing_as mark w (name_in w (seat_at w.conn.0 v))) (placings_of v mark ws) m)
+    ap (λ x. holds_on c (holds_at x r)) (with-both (placing_as mark w (name_in w (seat_at w.conn.0 v))) (placings_of v mark ws) m)
     ∙ go (is_by c w) refl (λ k own' subs' m' h'. all-placed v mark c s k own' subs' ws m' r e h')
   where
     go : (b : Bool) → is_by c w ≡ b
@@ -322,7 +319,7 @@ all-placed v mark c s n own subs (w ∷ ws) m r e h =
 pub none-placed : (v : Numbers) (mark : RowId) (c : ℕ) (ws : List Wanted) (m : HoldMap) (r : List ℕ) → seat_at c v ≡ None → holds_on c (holds_at (with_placings (placings_of v mark ws) m) r) ≡ holds_on c (holds_at m r)
 none-placed v mark c [] m r e = refl
 none-placed v mark c (w ∷ ws) m r e =
-    ap (λ x. holds_on c (holds_at x r)) (with-joined (placing_as mark w (name_in w (seat_at w.conn.0 v))) (placings_of v mark ws) m)
+    ap (λ x. holds_on c (holds_at x r)) (with-both (placing_as mark w (name_in w (seat_at w.conn.0 v))) (placings_of v mark ws) m)
     ∙ (none-placed v mark c ws (with_placings (placing_as mark w (name_in w (seat_at w.conn.0 v))) m) r e ∙ go (is_by c w) refl)
   where
     go : (b : Bool) → is_by c w ≡ b → holds_on c (holds_at (with_placings (placing_as mark w (name_in w (seat_at w.conn.0 v))) m) r) ≡ holds_on c (holds_at m r)

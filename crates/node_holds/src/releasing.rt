@@ -5,16 +5,10 @@ ghost use Rattle.node_holds.specs.Holding.{named, named_in, named_stops, when_na
 
 use cable_base::{ConnNo, Name, WantNo};
 use cable_model::Change;
-use conn_core::Sub;
+use conn_core::{Sub, among};
 use conn_seat::Seat;
 use stream_set::StreamEntry;
 use subscriber_map::SubscriberMap;
-
-fn among(names: &[Name], name: &str) -> bool
-    ensures { result ≡ among names.now name.now }
-{
-    names.iter().any(|n| n.as_str() == name)
-}
 
 /// Ends the hold of the stream, where it stops.
 fn release_stop(holders: &mut SubscriberMap, conn: ConnNo, stream: &StreamEntry, stops: &[Name])

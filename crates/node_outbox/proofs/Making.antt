@@ -11,6 +11,7 @@ roomier-still u v w r s = record {
   queue = λ c. s.queue c ∙ r.queue c;
   taken = λ c. s.taken c ∙ r.taken c;
   room = λ c. omega (arith, r.room c, s.room c);
+  forgotten = λ c. s.forgotten c ∙ r.forgotten c;
 }
 
 -- there is room on those that were passed, and on one more

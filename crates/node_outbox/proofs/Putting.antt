@@ -3,9 +3,9 @@ use Rattle.std.proofs.Common.{◌≡◌, ◌≤◌, ◌+◌, ◌==◌, ℕ, Bool
 use Rattle.std.proofs.lemmas.Bool.Decides.{nat_tests}
 use Rattle.node_outbox.specs.declared.outs.Out.{Out}
 use Rattle.node_outbox.specs.declared.outs.Queued.{Queued}
-use Rattle.node_outbox.specs.Outboxes.{OutboxesState, HasRoomFor, QueuesOne, is_on, outs_for, queue_at, taken_at, room_at}
+use Rattle.node_outbox.specs.Outboxes.{OutboxesState, HasRoomFor, QueuesOne, is_on, forgotten_at, outs_for, queue_at, taken_at, room_at}
 
-same-number : (a b : ℕ) → (a == b) ≡ true → a ≡ b
+pub same-number : (a b : ℕ) → (a == b) ≡ true → a ≡ b
 same-number a b e = grind (arith, nat_tests)
 
 self : (c : ℕ) → (c == c) ≡ true
@@ -57,3 +57,10 @@ taken-rest q v new p c = by-test (q.conn.0 == c) refl
     by-test : (b : Bool) → (q.conn.0 == c) ≡ b → taken_at c new ≡ taken_at c v
     by-test true e = subst (λ (d : ℕ). taken_at d new ≡ taken_at d v) (same-number q.conn.0 c e) p.taken
     by-test false e = ap (λ x. x.taken) (p.others c (turned q.conn.0 c e))
+
+pub forgotten-rest : (q : Queued) (v new : OutboxesState) → QueuesOne q v new → (c : ℕ) → forgotten_at c new ≡ forgotten_at c v
+forgotten-rest q v new p c = by-test (q.conn.0 == c) refl
+  where
+    by-test : (b : Bool) → (q.conn.0 == c) ≡ b → forgotten_at c new ≡ forgotten_at c v
+    by-test true e = subst (λ (d : ℕ). forgotten_at d new ≡ forgotten_at d v) (same-number q.conn.0 c e) p.forgotten
+    by-test false e = ap (λ x. x.forgotten) (p.others c (turned q.conn.0 c e))

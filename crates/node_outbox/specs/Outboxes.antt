@@ -1,23 +1,25 @@
 -- What is queued on the connections of a node, by their numbers.
-use Rattle.std.specs.Prelude.{◌≡◌, ◌==◌, ◌≤◌, ◌+◌, ℕ, Bool, false, List, [], ◌∷◌, ◌++◌, map, filter, length, Option, None, Some, unwrap_or}
+use Rattle.std.specs.Prelude.{◌≡◌, ◌==◌, ◌≤◌, ◌+◌, ℕ, Bool, true, false, List, [], ◌∷◌, ◌++◌, map, filter, length, Option, None, Some, unwrap_or}
 use Rattle.std.specs.Ordering.{nat_cmp}
 use Rattle.std.specs.Map.{lookup}
 use Rattle.std.specs.BTreeMap.{is_at}
 use Rattle.node_outbox.specs.declared.outs.Out.{Out}
 use Rattle.node_outbox.specs.declared.outs.Queued.{Queued}
 
--- what is queued on a connection in order, how many were taken out before, and how many more can be queued without memory
+-- what is queued on a connection in order, how many were taken out before, how many more can be queued without memory, and whether it was
+-- forgotten
 pub record OutboxState : Type 0 where
   pub queued : List Out
   pub taken : ℕ
   pub room : ℕ
+  pub forgotten : Bool
 
 -- by number. On a number that isn't there nothing was ever queued
 pub record OutboxesState : Type 0 where
   pub entries : List (ℕ × OutboxState)
 
 abbrev pub unused : OutboxState
-unused = record { queued = []; taken = 0; room = 0 }
+unused = record { queued = []; taken = 0; room = 0; forgotten = false }
 
 abbrev pub outbox_at : ℕ → OutboxesState → OutboxState
 outbox_at c v = unwrap_or (lookup (is_at (nat_cmp c)) v.entries) unused
@@ -34,6 +36,10 @@ taken_at c v = (outbox_at c v).taken
 abbrev pub room_at : ℕ → OutboxesState → ℕ
 room_at c v = (outbox_at c v).room
 
+-- it was forgotten
+abbrev pub forgotten_at : ℕ → OutboxesState → Bool
+forgotten_at c v = (outbox_at c v).forgotten
+
 -- ---- on one connection
 
 -- there may be more room
@@ -41,31 +47,39 @@ pub record Widens (v new : OutboxState) : Type 0 where
   pub queued : new.queued ≡ v.queued
   pub taken : new.taken ≡ v.taken
   pub room : v.room ≤ new.room
+  pub forgotten : new.forgotten ≡ v.forgotten
 
 -- one is queued behind the others
 pub record Puts (out : Out) (v new : OutboxState) : Type 0 where
   pub queued : new.queued ≡ v.queued ++ out ∷ []
   pub taken : new.taken ≡ v.taken
   pub room : new.room + 1 ≡ v.room
+  pub forgotten : new.forgotten ≡ v.forgotten
 
 -- the first one is taken out, or there is none
 abbrev pub Takes : Option Out → OutboxState → OutboxState → Type 0
 Takes None v new = (v.queued ≡ []) × (new ≡ v)
-Takes (Some out) v new = (v.queued ≡ out ∷ new.queued) × (new.taken ≡ v.taken + 1)
+Takes (Some out) v new = (v.queued ≡ out ∷ new.queued) × (new.taken ≡ v.taken + 1) × (new.forgotten ≡ v.forgotten)
+
+-- only how many were taken out is kept
+abbrev pub forgotten_of : OutboxState → OutboxState
+forgotten_of v = record { queued = []; taken = v.taken; room = 0; forgotten = true }
 
 -- ---- on all connections
 
--- what is queued and was taken out stays, and there is no less room
+-- what is queued and was taken out stays, there is no less room, and none is forgotten by it
 pub record Roomier (v new : OutboxesState) : Type 0 where
   pub queue : (c : ℕ) → queue_at c new ≡ queue_at c v
   pub taken : (c : ℕ) → taken_at c new ≡ taken_at c v
   pub room : (c : ℕ) → room_at c v ≤ room_at c new
+  pub forgotten : (c : ℕ) → forgotten_at c new ≡ forgotten_at c v
 
 -- one is queued behind what was, in the room for it
 pub record QueuesOne (q : Queued) (v new : OutboxesState) : Type 0 where
   pub queue : queue_at q.conn.0 new ≡ queue_at q.conn.0 v ++ q.out ∷ []
   pub taken : taken_at q.conn.0 new ≡ taken_at q.conn.0 v
   pub room : room_at q.conn.0 new + 1 ≡ room_at q.conn.0 v
+  pub forgotten : forgotten_at q.conn.0 new ≡ forgotten_at q.conn.0 v
   pub others : (d : ℕ) → (d == q.conn.0) ≡ false → outbox_at d new ≡ outbox_at d v
 
 -- ---- several at once
@@ -85,6 +99,7 @@ HasRoomFor qs v = (c : ℕ) → length (outs_for c qs) ≤ room_at c v
 pub record Queues (qs : List Queued) (v new : OutboxesState) : Type 0 where
   pub queue : (c : ℕ) → queue_at c new ≡ queue_at c v ++ outs_for c qs
   pub taken : (c : ℕ) → taken_at c new ≡ taken_at c v
+  pub forgotten : (c : ℕ) → forgotten_at c new ≡ forgotten_at c v
 
 -- the first on c was taken out, or there was none
 pub record TakesOut (c : ℕ) (out : Option Out) (v new : OutboxesState) : Type 0 where
@@ -92,3 +107,11 @@ pub record TakesOut (c : ℕ) (out : Option Out) (v new : OutboxesState) : Type 
   pub first : (o : Out) → out ≡ Some o → (queue_at c v ≡ o ∷ queue_at c new) × (taken_at c new ≡ taken_at c v + 1)
   pub queue : (d : ℕ) → (d == c) ≡ false → queue_at d new ≡ queue_at d v
   pub taken : (d : ℕ) → (d == c) ≡ false → taken_at d new ≡ taken_at d v
+  pub forgotten : (d : ℕ) → forgotten_at d new ≡ forgotten_at d v
+
+-- c is forgotten and no other, and what is queued and how many were taken out stays on all
+pub record Forgets (c : ℕ) (v new : OutboxesState) : Type 0 where
+  pub forgotten : forgotten_at c new ≡ true
+  pub queue : (d : ℕ) → queue_at d new ≡ queue_at d v
+  pub taken : (d : ℕ) → taken_at d new ≡ taken_at d v
+  pub others : (d : ℕ) → (d == c) ≡ false → forgotten_at d new ≡ forgotten_at d v

@@ -1,5 +1,5 @@
 ghost use Rattle.std.specs.Prelude.{◌≡◌, ◌≤◌, [], true, false, OnOk};
-ghost use Rattle.node_outbox.specs.Outboxes.{Widens, Puts, Takes, unused};
+ghost use Rattle.node_outbox.specs.Outboxes.{Widens, Puts, Takes, forgotten_of, unused};
 
 use crate::outs::Out;
 use cable_base::OutOfMemory;
@@ -13,6 +13,7 @@ pub struct Outbox {
     queued: VecDeque<Out>,
     taken: u64,
     room: u64,
+    forgotten: bool,
 }
 
 impl Model for Outbox {
@@ -21,7 +22,7 @@ impl Model for Outbox {
 
     ghost Value = { OutboxState };
 
-    ghost view = { λ a. record { queued = a.queued.items; taken = a.taken; room = a.room } };
+    ghost view = { λ a. record { queued = a.queued.items; taken = a.taken; room = a.room; forgotten = a.forgotten } };
 
     ghost invariant = { λ a. HasPlaces a.queued.len a.queued.cap a.taken a.room };
 }
@@ -35,6 +36,7 @@ impl Outbox {
             queued: VecDeque::new(alloc),
             taken: 0,
             room: 0,
+            forgotten: false,
         }
     }
 
@@ -71,6 +73,23 @@ impl Outbox {
         let first = self.queued.pop_front()?;
         self.taken += 1;
         Some(first)
+    }
+
+    /// Gives back the memory of the queue, and marks it as forgotten. How many were taken out stays. It takes no memory.
+    pub fn forget(&mut self, alloc: Global)
+        requires { self.old.queued ≡ [] }
+        ensures { self.new ≡ forgotten_of self.old }
+    {
+        self.queued = VecDeque::new(alloc);
+        self.room = 0;
+        self.forgotten = true;
+    }
+
+    /// Whether it was forgotten.
+    pub fn is_forgotten(&self) -> bool
+        ensures { result ≡ self.now.forgotten }
+    {
+        self.forgotten
     }
 
     /// Whether nothing is queued.

@@ -1,6 +1,6 @@
-ghost use Rattle.std.specs.Prelude.{◌≡◌, ◌≤◌, ◌==◌, ℕ, [], true, false, OnOk};
+ghost use Rattle.std.specs.Prelude.{◌≡◌, ◌≤◌, ◌<◌, ◌==◌, ℕ, [], true, false, OnOk};
 ghost use Rattle.std.specs.List.{list_any};
-ghost use Rattle.node_outbox.specs.Outboxes.{HasRoomFor, QueuesOne, Queues, Roomier, TakesOut, queue_at, room_at, taken_at};
+ghost use Rattle.node_outbox.specs.Outboxes.{HasRoomFor, QueuesOne, Queues, Roomier, TakesOut, Forgets, forgotten_at, queue_at, room_at, taken_at};
 
 use crate::outbox::Outbox;
 use crate::outs::{Out, Queued};
@@ -9,7 +9,7 @@ use std::alloc::Global;
 use std::collections::BTreeMap;
 use std::marker::Model;
 
-/// What is queued on the connections of a node, in order, and how many were taken out on each.
+/// What is queued on the connections of a node, in order, how many were taken out on each, and which were forgotten.
 #[derive(Debug, Drop)]
 pub struct Outboxes {
     alloc: Global,
@@ -25,9 +25,10 @@ impl Model for Outboxes {
 }
 
 impl Outboxes {
-    /// Nothing is queued, and nothing was. It takes no memory.
+    /// Nothing is queued, nothing was, and none was forgotten. It takes no memory.
     pub fn empty(alloc: Global) -> Outboxes
-        ensures { (c : ℕ) → (queue_at c result ≡ []) × (taken_at c result ≡ 0) }
+        ensures nothing { (c : ℕ) → (queue_at c result ≡ []) × (taken_at c result ≡ 0) }
+        ensures none_forgotten { (c : ℕ) → forgotten_at c result ≡ false }
     {
         Outboxes {
             alloc,
@@ -96,6 +97,29 @@ impl Outboxes {
         match self.by_number.get(&conn.0) {
             Some(outbox) => outbox.is_empty(),
             None => true,
+        }
+    }
+
+    /// Forgets a connection: the memory of its queue is given back, and only how many were taken out stays known. It is for one on which
+    /// something was queued and all of it was taken out. It takes no memory.
+    pub fn forget(&mut self, conn: ConnNo)
+        requires empty { queue_at conn.0 self.old ≡ [] }
+        requires used { 0 < taken_at conn.0 self.old }
+        ensures { Forgets conn.0 self.old self.new }
+    {
+        let Some(outbox) = self.by_number.get_mut(&conn.0) else {
+            unreachable!()
+        };
+        outbox.forget(self.alloc);
+    }
+
+    /// Whether the connection was forgotten. It takes no memory.
+    pub fn is_forgotten(&self, conn: ConnNo) -> bool
+        ensures { result ≡ forgotten_at conn.0 self.now }
+    {
+        match self.by_number.get(&conn.0) {
+            Some(outbox) => outbox.is_forgotten(),
+            None => false,
         }
     }
 }

@@ -42,6 +42,18 @@ fn hears(outboxes: &mut Outboxes, conn: ConnNo, text: &str) -> bool {
     }
 }
 
+/// Takes out what is queued first, and forgets the connection where nothing else is.
+fn forgets(outboxes: &mut Outboxes, conn: ConnNo) -> bool {
+    let Some(_) = outboxes.take_out(conn) else {
+        return false;
+    };
+    if !outboxes.is_empty(conn) {
+        return false;
+    }
+    outboxes.forget(conn);
+    true
+}
+
 #[test]
 fn takes_out_in_order(rt: HostRuntime) -> Result<(), Fail> {
     let alloc = rt.alloc();
@@ -69,5 +81,19 @@ fn makes_no_endless_room(rt: HostRuntime) -> Result<(), Fail> {
     assert!(rt; outboxes.reserve(ANN, 3).is_ok() && outboxes.reserve(ANN, 0).is_ok());
     assert!(rt; outboxes.reserve_each(&[ANN, BEN, ANN]).is_ok());
     assert!(rt; hears(&mut outboxes, ANN, "one") && outboxes.is_empty(BEN));
+    Ok(())
+}
+
+#[test]
+fn forgets_one_of_two(rt: HostRuntime) -> Result<(), Fail> {
+    let alloc = rt.alloc();
+    let mut outboxes = Outboxes::empty(alloc);
+    say(&mut outboxes, alloc, ANN, "one")?;
+    say(&mut outboxes, alloc, BEN, "for ben")?;
+    assert!(rt; !outboxes.is_forgotten(ANN));
+    assert!(rt; forgets(&mut outboxes, ANN));
+    assert!(rt; outboxes.is_forgotten(ANN) && !outboxes.is_forgotten(BEN));
+    assert!(rt; outboxes.is_empty(ANN) && outboxes.take_out(ANN).is_none());
+    assert!(rt; hears(&mut outboxes, BEN, "for ben"));
     Ok(())
 }

@@ -1,5 +1,5 @@
 -- The events of a built line are those that a session steps, and they are few.
-use Rattle.std.proofs.Common.{◌≡◌, ℕ, zero, suc, ◌+◌, ◌≤◌, true, List, [], ◌∷◌, ◌++◌, length, refl, sym, subst, arith}
+use Rattle.std.proofs.Common.{◌≡◌, ℕ, zero, suc, ◌+◌, ◌≤◌, ◌<◌, true, List, [], ◌∷◌, ◌++◌, length, refl, sym, subst, arith}
 use Rattle.std.specs.Prelude.{replicate, IsSome}
 use Rattle.std.specs.List.{All, list_all}
 use Rattle.std.proofs.lemmas.Bool.{and_parts, eqb-true, leb-true}
@@ -11,6 +11,7 @@ use Rattle.cable_model.specs.declared.events.Event.TheVariants as event
 use Rattle.cable_model.specs.declared.verbs.Verb.{Verb}
 use Rattle.cable_model.specs.declared.verbs.Verb.TheVariants.{One, Work, Poll}
 use Rattle.cable_model.specs.Script.{expand, IsCast, SpellsEvent, Spells, AllSpell}
+use Rattle.table_core.specs.Keepers.{moment_limit}
 use Rattle.table_core.specs.Tables.{IsWithinLimits}
 use Rattle.replay_cli.specs.Built.{is_built_event, is_built_verb}
 use Rattle.replay_cli.specs.Running.{IsPlayedLine}
@@ -20,14 +21,15 @@ use Rattle.replay_cli.specs.Sessions.{IsPlayed}
 abbrev pub Squeezes : Type 0
 Squeezes = (text : List ℕ) → IsSome (read text) → IsSqueezedJson (squeezed text)
 
+early-enough : (at : ℕ) → at ≤ 9007199254740991 → at < moment_limit
+early-enough at early = omega (arith, early)
+
 -- the grammar of a cast keeps within the table's limits
 within : Squeezes → (channel json payload : List ℕ) (at : ℕ) → at ≤ 9007199254740991 → IsCast channel json payload → IsWithinLimits channel payload at
 within squeezes channel json payload at early c =
     record {
-      channel_len = c.short_name;
-      payload_len = c.short_payload;
-      message = subst IsSqueezedJson (sym c.squeezes) (squeezes json c.reads);
-      moment = omega (arith, early);
+      row = record { channel_len = c.short_name; payload_len = c.short_payload; message = subst IsSqueezedJson (sym c.squeezes) (squeezes json c.reads) };
+      moment = early-enough at early;
     }
 
 event_played : Squeezes → (e : Event) (line : List ℕ) → is_built_event e ≡ true → SpellsEvent e line → IsPlayed e
@@ -37,7 +39,7 @@ event_played squeezes (event.In conn text) line b s = tt
 event_played squeezes (event.Drop conn) line b s = tt
 event_played squeezes (event.Stop node) line b s = eqb-true node.0 1 b
 event_played squeezes (event.Take conn) line b s = tt
-event_played squeezes (event.Put conn at) line b s = absurd cc
+event_played squeezes (event.Put conn at) line b s = early-enough at.0 s.1.1
 event_played squeezes (event.Finish conn) line b s = tt
 event_played squeezes (event.Cast at channel payload) line b s = within squeezes channel s.0 payload at.0 s.1.0.1 s.1.1
 event_played squeezes (event.Trim now retention batch) line b s = tt
@@ -66,7 +68,8 @@ built_few (Poll node) b = omega arith
 built_each : Squeezes → (v : Verb) (line : List ℕ) → is_built_verb v ≡ true → Spells v line → All IsPlayed (expand v)
 built_each squeezes (One e) line b s = all_one e (event_played squeezes e line b s)
 built_each squeezes (Work conn at puts) line b s =
-    All-cons IsPlayed (event.Take conn) (replicate puts (event.Put conn at) ++ event.Finish conn ∷ []) tt (puts_played puts (event.Put conn at) (event.Finish conn) tt tt)
+    All-cons IsPlayed (event.Take conn) (replicate puts (event.Put conn at) ++ event.Finish conn ∷ []) tt
+    (puts_played puts (event.Put conn at) (event.Finish conn) (early-enough at.0 s.1.1) tt)
 built_each squeezes (Poll node) line b s =
     let one = eqb-true node.0 1 b in
     All-cons IsPlayed (event.Ask node) (event.Read node ∷ event.Deliver node ∷ []) one (All-cons IsPlayed (event.Read node) (event.Deliver node ∷ []) one (all_one (event.Deliver node) one))

@@ -1,21 +1,17 @@
 -- Each step of a session is the model's: what it says, and the world that it goes on to follow.
-use Rattle.std.proofs.Common.{◌≡◌, ℕ, ◌==◌, Bool, true, false, cond, not, ◌&&◌, List, [], ◌∷◌, ◌++◌, ℤ, length, map, Option, Some, None, refl, sym, ap, subst, ◌∙◌}
-use Rattle.std.specs.Prelude.{is_none}
+use Rattle.std.proofs.Common.{◌≡◌, ℕ, ◌==◌, Bool, true, false, cond, List, [], ◌∷◌, ◌++◌, ℤ, length, map, Some, None, refl, sym, ap, subst, ◌∙◌}
 use Rattle.std.specs.List.{list_any}
 use Rattle.std.specs.List.Sorted.{IsStrictlySortedBy}
 use Rattle.std.specs.Map.{keys_of}
 use Rattle.std.specs.Ordering.{nat_cmp}
 use Rattle.cable_model.specs.declared.events.Event.{Event}
-use Rattle.cable_model.specs.declared.journals.ReadNote.{ReadNote}
 use Rattle.cable_model.specs.Journal.{Kept, past_of}
 use Rattle.cable_model.specs.Legal.{Legal}
-use Rattle.cable_model.specs.Pieces.{seat}
-use Rattle.cable_model.specs.Plans.{Callbacks}
 use Rattle.cable_model.specs.Steps.{Step}
-use Rattle.cable_model.specs.Table.{TableStep, contains}
+use Rattle.cable_model.specs.Table.{contains}
 use Rattle.cable_model.specs.Wants.{at_ask, lower, user_of}
-use Rattle.cable_model.specs.Possible.{opened, is_opened, is_live, is_booted, is_out, last_turn}
-use Rattle.cable_model.specs.History.{Rules, World, start, run, at_home, home_of, logged, is_possible, happened, caught, hashes_of, held_names}
+use Rattle.cable_model.specs.Possible.{opened, is_opened, is_live, is_out, last_turn}
+use Rattle.cable_model.specs.History.{Rules, World, start, run, at_home, home_of, logged, is_possible, happened, caught, held_names}
 use Rattle.cable_model.specs.HistoryLaws.{planner_of}
 use Rattle.cable_model.specs.Promise.{AllWorked}
 use Rattle.cable_model.specs.Transcript.{lines_of, queued}
@@ -23,7 +19,7 @@ use Rattle.cable_model.proofs.JobsStay.{keeps_job, unopened-user}
 use Rattle.cable_model.proofs.NodeSound.{plans-for}
 use Rattle.cable_model.proofs.Restricting.{legal_restrictions}
 use Rattle.cable_model.proofs.Sound.{Sound, start-sound, run-sound}
-use Rattle.node_core.specs.Nodes.{NodeState, TakesNone, past, taken_out}
+use Rattle.node_core.specs.Nodes.{NodeState, TakesNone, past}
 use Rattle.table_core.specs.Memory.{MemRows}
 use Rattle.table_core.specs.Tables.{TableState}
 use Rattle.replay_cli.specs.declared.outstanding.OutWork.{OutWork}
@@ -56,8 +52,7 @@ pub record Comes (r : Rules) (h' : Held) (now : World) : Type 0 where
   pub node : IsNode h'.node (now.nodes 1)
   pub home : (c : ℕ) → now.home c ≡ home_on c (now.nodes 1)
   pub rising : IsStrictlySortedBy nat_cmp (keys_of h'.works)
-  pub works : (c : ℕ) → IsWorkAt r.callbacks c (now.nodes 1) (work_at c h'.works)
-  pub puts : (c : ℕ) → now.puts c ≡ []
+  pub works : (c : ℕ) → IsWorkAt r.callbacks c (now.nodes 1) (now.puts c) (work_at c h'.works)
   pub turn : IsTurnIn r now h'.turn
   pub table : IsTableOf h'.table now.table now.failing
 
@@ -71,7 +66,6 @@ comes r h h' w now e f may is k =
       home = k.home;
       rising = k.rising;
       works = k.works;
-      puts = k.puts;
       turn = k.turn;
       table = k.table;
     })
@@ -177,13 +171,16 @@ entered n n' e steps same_no grown takes quiet is = record {
 }
 
 -- a node to which nothing happened
-pub node-same : (n n' : NodeState) (steps : List Step) → n'.no ≡ n.no → n'.kept ≡ n.kept → TakesNone n n' → IsNodeOf n steps → IsNodeOf n' steps
-node-same n n' steps same_no kept takes is = record {
+pub node-unmoved : (n n' : NodeState) (steps : List Step) → n'.no ≡ n.no → past n' ≡ past n → TakesNone n n' → IsNodeOf n steps → IsNodeOf n' steps
+node-unmoved n n' steps same_no same takes is = record {
   number = ap (λ x. x.0) same_no ∙ is.number;
-  journal = ap (λ (k : Kept). past_of k) kept ∙ is.journal;
+  journal = same ∙ is.journal;
   booted = is.booted;
   drained = λ c. takes c ∙ is.drained c;
 }
+
+pub node-same : (n n' : NodeState) (steps : List Step) → n'.no ≡ n.no → n'.kept ≡ n.kept → TakesNone n n' → IsNodeOf n steps → IsNodeOf n' steps
+node-same n n' steps same_no kept takes is = node-unmoved n n' steps same_no (ap (λ (k : Kept). past_of k) kept) takes is
 
 -- a session to which nothing happened
 pub follows-same : (r : Rules) (h h' : Held) (w : World) → FollowsWorld r h w → IsNode h'.node (w.nodes 1) → h'.works ≡ h.works → h'.turn ≡ h.turn → h'.table ≡ h.table → FollowsWorld r h' w
@@ -193,15 +190,14 @@ follows-same r h h' w f node works turn table = record {
   node = node;
   home = f.home;
   rising = subst (λ (es : List (ℕ × OutWork)). IsStrictlySortedBy nat_cmp (keys_of es)) (sym works) f.rising;
-  works = λ c. subst (λ (es : List (ℕ × OutWork)). IsWorkAt r.callbacks c (w.nodes 1) (work_at c es)) (sym works) (f.works c);
-  puts = f.puts;
+  works = λ c. subst (λ (es : List (ℕ × OutWork)). IsWorkAt r.callbacks c (w.nodes 1) (w.puts c) (work_at c es)) (sym works) (f.works c);
   turn = subst (IsTurnIn r w) (sym turn) f.turn;
   table = subst (λ (t : TableState MemRows). IsTableOf t w.table w.failing) (sym table) f.table;
 }
 
 -- the works behind an entry that is no Open, Take or Finish
-pub works-stay : (r : Rules) (h : Held) (w : World) (e : Step) → FollowsWorld r h w → ((c : ℕ) → keeps_job c e ≡ true) → (c : ℕ) → IsWorkAt r.callbacks c (e ∷ w.nodes 1) (work_at c h.works)
-works-stay r h w e f keeps c = work-stays (planner_of r.callbacks (user_of c (w.nodes 1))) r.callbacks c e (w.nodes 1) (work_at c h.works) (worked-now r h w f c) (keeps c) (f.works c)
+pub works-stay : (r : Rules) (h : Held) (w : World) (e : Step) → FollowsWorld r h w → ((c : ℕ) → keeps_job c e ≡ true) → (c : ℕ) → IsWorkAt r.callbacks c (e ∷ w.nodes 1) (w.puts c) (work_at c h.works)
+works-stay r h w e f keeps c = work-stays (planner_of r.callbacks (user_of c (w.nodes 1))) r.callbacks c e (w.nodes 1) (w.puts c) (work_at c h.works) (worked-now r h w f c) (keeps c) (f.works c)
 
 -- an entry of node 1 that opens nothing, is no Take or Finish, and is of no turn
 pub one-entry : (r : Rules) (h h' : Held) (w : World) (e : Step) → FollowsWorld r h w → IsNode h'.node (e ∷ w.nodes 1) → h'.works ≡ h.works → h'.turn ≡ h.turn → h'.table ≡ h.table
@@ -210,8 +206,7 @@ one-entry r h h' w e f node works turn table same keeps turn_same = record {
   node = node;
   home = λ c. f.home c ∙ ap (λ (ks : List ℕ). cond (list_any (λ d. d == c) ks) (Some 1) None) (sym same);
   rising = subst (λ (es : List (ℕ × OutWork)). IsStrictlySortedBy nat_cmp (keys_of es)) (sym works) f.rising;
-  works = λ c. subst (λ (es : List (ℕ × OutWork)). IsWorkAt r.callbacks c (e ∷ w.nodes 1) (work_at c es)) (sym works) (works-stay r h w e f keeps c);
-  puts = f.puts;
+  works = λ c. subst (λ (es : List (ℕ × OutWork)). IsWorkAt r.callbacks c (e ∷ w.nodes 1) (w.puts c) (work_at c es)) (sym works) (works-stay r h w e f keeps c);
   turn = subst (IsTurnIn r (logged w 1 e)) (sym turn) (turn-stays r w (logged w 1 e) h.turn turn_same f.turn);
   table = subst (λ (t : TableState MemRows). IsTableOf t w.table w.failing) (sym table) f.table;
 }

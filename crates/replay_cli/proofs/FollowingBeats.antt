@@ -13,13 +13,11 @@ use Rattle.cable_base.specs.declared.numbers.ConnNo.{ConnNo}
 use Rattle.cable_base.specs.declared.numbers.Millis.{Millis}
 use Rattle.cable_base.specs.declared.numbers.RowId.{RowId}
 use Rattle.cable_model.specs.declared.events.Event.TheVariants as event
-use Rattle.cable_model.specs.declared.lines.Line.{Line}
 use Rattle.cable_model.specs.Journal.{Kept, past_of}
 use Rattle.cable_model.specs.Legal.{Legal}
 use Rattle.cable_model.specs.Steps.{Step}
 use Rattle.cable_model.specs.Table.{TableStep, last_id}
 use Rattle.cable_model.specs.Possible.{opened, is_opened, is_receiving, receiving, inserted, is_booted, is_out}
-use Rattle.cable_model.specs.Pieces.{seat, closing}
 use Rattle.cable_model.specs.History.{Rules, World, logged, happened}
 use Rattle.cable_model.specs.Transcript.{queued, ping_line}
 use Rattle.cable_model.proofs.JobsStay.{new-number}
@@ -35,7 +33,7 @@ use Rattle.replay_cli.specs.declared.saying.Said.{Said}
 use Rattle.replay_cli.specs.Draining.{left_on}
 use Rattle.replay_cli.specs.Sessions.{Held, IsNodeOf, IsNode, IsWorkAt, IsTurnIn, IsTableOf, work_at, FollowsWorld, FollowsSome, StepsAs, silent_said}
 use Rattle.replay_cli.proofs.Drained.{is_in}
-use Rattle.replay_cli.proofs.Following.{possible_steps, comes, legal-now, node-of, unbooted, dead-unopened, one-entry, works-stay, turn-stays}
+use Rattle.replay_cli.proofs.Following.{possible_steps, comes, legal-now, node-of, unbooted, dead-unopened, one-entry, works-stay}
 use Rattle.replay_cli.proofs.FollowingNode.{left-lines, taken-within}
 
 -- ---- the connections that were opened differ
@@ -230,9 +228,8 @@ boot_steps r h h' n last none now works turn table last_is number booted taken =
       home = f.home;
       rising = subst (λ (es : List (ℕ × OutWork)). IsStrictlySortedBy nat_cmp (keys_of es)) (sym works) f.rising;
       works = λ c.
-          subst (λ (es : List (ℕ × OutWork)). IsWorkAt r.callbacks c (Step.Boot (last_id w.table) ∷ w.nodes 1) (work_at c es)) (sym works)
+          subst (λ (es : List (ℕ × OutWork)). IsWorkAt r.callbacks c (Step.Boot (last_id w.table) ∷ w.nodes 1) (w.puts c) (work_at c es)) (sym works)
           (works-stay r h w (Step.Boot (last_id w.table)) f (λ d. refl) c);
-      puts = f.puts;
       turn = subst (IsTurnIn r (happened r w (event.Boot (record { 0 = 1 })))) (sym turn) (first-turn w f h.turn f.turn);
       table = subst (λ (t : TableState MemRows). IsTableOf t (TableStep.Boot 1 (last_id w.table) ∷ w.table) w.failing) (sym table)
           (record {

@@ -1,13 +1,12 @@
 -- A session's opens are the model's.
-use Rattle.std.proofs.Common.{◌≡◌, ◌≤◌, ℕ, ◌==◌, Bool, true, false, cond, not, ◌&&◌, ◌||◌, List, [], ◌∷◌, ◌++◌, length, Option, Some, None, Result, Ok, Err, refl, sym, ap, subst, ◌∙◌, arith}
+use Rattle.std.proofs.Common.{◌≡◌, ◌≤◌, ℕ, ◌==◌, Bool, true, false, cond, not, ◌&&◌, ◌||◌, List, [], ◌∷◌, ◌++◌, length, Option, Some, None, Ok, Err, refl, sym, ap, subst, ◌∙◌, arith}
 use Rattle.std.specs.Prelude.{is_none, ltb}
 use Rattle.std.proofs.lemmas.Bool.Decides.{nat_tests}
 use Rattle.cable_base.specs.declared.numbers.ConnNo.{ConnNo}
 use Rattle.cable_model.specs.declared.events.Event.TheVariants as event
-use Rattle.cable_model.specs.declared.lines.Line.{Line}
 use Rattle.cable_model.specs.Limits.{most_connections}
 use Rattle.cable_model.specs.Steps.{Step}
-use Rattle.cable_model.specs.Possible.{is_opened, is_booted, live_count, can_open}
+use Rattle.cable_model.specs.Possible.{is_opened, live_count, can_open}
 use Rattle.cable_model.specs.History.{Rules, World, logged, with_home, at_number, is_possible}
 use Rattle.cable_model.specs.Transcript.{conn_line, greeting, queued}
 use Rattle.cable_model.proofs.JobsStay.{opened-now}
@@ -126,9 +125,8 @@ module _ (r : Rules) (h h' : Held) (c : ConnNo) (token : List ℕ) (n m n' : Nod
         home = home-now w c.0 token (r.callbacks.identify token) f.home;
         rising = subst (λ (es : List (ℕ × OutWork)). IsStrictlySortedBy nat_cmp (keys_of es)) (sym works) f.rising;
         works = λ d.
-            subst (λ (es : List (ℕ × OutWork)). IsWorkAt r.callbacks d (Step.Open c.0 token (r.callbacks.identify token) ∷ w.nodes 1) (work_at d es)) (sym works)
-            (work-opens r.callbacks d c.0 token (r.callbacks.identify token) (w.nodes 1) (work_at d h.works) (free w f).unused (f.works d));
-        puts = f.puts;
+            subst (λ (es : List (ℕ × OutWork)). IsWorkAt r.callbacks d (Step.Open c.0 token (r.callbacks.identify token) ∷ w.nodes 1) (w.puts d) (work_at d es)) (sym works)
+            (work-opens r.callbacks d c.0 token (r.callbacks.identify token) (w.nodes 1) (w.puts d) (work_at d h.works) (free w f).unused (f.works d));
         turn = subst (IsTurnIn r (with_home (logged w 1 (Step.Open c.0 token (r.callbacks.identify token))) c.0 1)) (sym turn)
             (turn-stays r w (with_home (logged w 1 (Step.Open c.0 token (r.callbacks.identify token))) c.0 1) h.turn (record { out = refl; last = refl; low = refl; asked = refl; note_is = refl }) f.turn);
         table = subst (λ (t : TableState MemRows). IsTableOf t w.table w.failing) (sym table) f.table;

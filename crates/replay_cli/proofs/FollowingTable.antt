@@ -1,5 +1,5 @@
 -- Casts, trims and faults of a session's table are the model's.
-use Rattle.std.proofs.Common.{◌≡◌, ℕ, suc, ◌+◌, ◌==◌, ◌||◌, Bool, true, false, cond, List, [], ◌∷◌, ◌++◌, length, Option, Some, None, Result, Ok, Err, refl, sym, ap, subst, ◌∙◌, add-one}
+use Rattle.std.proofs.Common.{◌≡◌, ℕ, suc, ◌+◌, ◌==◌, ◌||◌, Bool, true, false, cond, List, [], ◌∷◌, ◌++◌, length, Option, Some, None, Result, Ok, Err, refl, sym, ap, subst, ◌∙◌, ◌⊎◌, inl, inr, add-one}
 use Rattle.std.specs.List.{list_any}
 use Rattle.std.proofs.lemmas.Option.{same_Some}
 use Rattle.cable_base.specs.Memory.{next_count}
@@ -49,11 +49,28 @@ was_refused f f' c badly = record { fails = c.fails.0 badly; behind = same_Some 
 pub no-fault : {T : Type 0} (x : T) (r : Result T StoreFault) (e : StoreFault) → r ≡ Ok x → r ≡ Err e → ⊥
 no-fault x r e well badly = cc (well, badly)
 
-pub not-spent : {T : Type 0} (r : Result T StoreFault) → r ≡ Err store_fault.Failed → r ≡ Err store_fault.IdsSpent → ⊥
+not-spent : {T : Type 0} (r : Result T StoreFault) → r ≡ Err store_fault.Failed → r ≡ Err store_fault.IdsSpent → ⊥
 not-spent r failed spent = cc (failed, spent)
 
-pub not-memory : {T : Type 0} (r : Result T StoreFault) → r ≡ Err store_fault.Failed → r ≡ Err store_fault.OutOfMemory → ⊥
+not-memory : {T : Type 0} (r : Result T StoreFault) → r ≡ Err store_fault.Failed → r ≡ Err store_fault.OutOfMemory → ⊥
 not-memory r failed memory = cc (failed, memory)
+
+-- the call of a commit that gave an id, and of one that the keeper refused
+pub commit_went : {Same went : Type 0} {a a' n n' : ℕ} (r : Result RowId StoreFault) (id : RowId) (f f' : KeeperFailures) → r ≡ Ok id
+    → (Same × ((r ≡ Err store_fault.IdsSpent) ⊎ (r ≡ Err store_fault.OutOfMemory))) ⊎ CallsOnce went (r ≡ Err store_fault.Failed) a a' n n' (Some f) (Some f') → Calls f f' false
+commit_went r id f f' well c =
+    elim c [
+      | inl none ↦ absurd (elim none.1 [ inl spent ↦ no-fault id r store_fault.IdsSpent well spent | inr memory ↦ no-fault id r store_fault.OutOfMemory well memory ])
+      | inr call ↦ went_well f f' call (λ e. no-fault id r store_fault.Failed well e)
+    ]
+
+pub commit_failed : {Same went : Type 0} {a a' n n' : ℕ} (r : Result RowId StoreFault) (f f' : KeeperFailures) → r ≡ Err store_fault.Failed
+    → (Same × ((r ≡ Err store_fault.IdsSpent) ⊎ (r ≡ Err store_fault.OutOfMemory))) ⊎ CallsOnce went (r ≡ Err store_fault.Failed) a a' n n' (Some f) (Some f') → Calls f f' true
+commit_failed r f f' failed c =
+    elim c [
+      | inl none ↦ absurd (elim none.1 [ inl spent ↦ not-spent r failed spent | inr memory ↦ not-memory r failed memory ])
+      | inr call ↦ was_refused f f' call failed
+    ]
 
 -- where no call was planned to fail, one fails where that was asked for
 asked-for : (f : KeeperFailures) → f.planned.planned ≡ [] → is_refused f ≡ f.next
@@ -85,7 +102,7 @@ module _ (r : Rules) (h : Held) (turn : TurnOut) (t : TableState MemRows) (faile
   pub failing-is : (w : World) → FollowsWorld r h w → w.failing ≡ failed
   failing-is w f = sym f.table.failing_is ∙ sym (asked-for h.table.keeper.failures f.table.unplanned) ∙ call.fails
 
-  table-behind : (w : World) (entry : TableStep) → FollowsWorld r h w → Shows t.keeper.rows t.last.0 (entry ∷ w.table) → IsTableOf t (entry ∷ w.table) false
+  pub table-behind : (w : World) (entry : TableStep) → FollowsWorld r h w → Shows t.keeper.rows t.last.0 (entry ∷ w.table) → IsTableOf t (entry ∷ w.table) false
   table-behind w entry f shows = record {
     shows = shows;
     unplanned = ap (λ (x : KeeperFailures). x.planned.planned) call.behind ∙ f.table.unplanned;
@@ -104,7 +121,6 @@ module _ (r : Rules) (h : Held) (turn : TurnOut) (t : TableState MemRows) (faile
         home = f.home;
         rising = f.rising;
         works = f.works;
-        puts = f.puts;
         turn = turns w f (failing-is w f);
         table = table-behind w (entry w) f (shows w f (failing-is w f));
       }))
@@ -112,11 +128,11 @@ module _ (r : Rules) (h : Held) (turn : TurnOut) (t : TableState MemRows) (faile
 -- ---- a cast
 
 -- the id of a commit that went well
-new-id : (w : World) (last : ℕ) (id : RowId) → w.failing ≡ false → last ≡ last_id w.table → id.0 ≡ last + 1 → new_id w ≡ Some id.0
+pub new-id : (w : World) (last : ℕ) (id : RowId) → w.failing ≡ false → last ≡ last_id w.table → id.0 ≡ last + 1 → new_id w ≡ Some id.0
 new-id w last id calm last_is next =
     ap (λ b. cond b None (Some (suc (last_id w.table)))) calm ∙ ap (λ (n : ℕ). Some n) (sym (next ∙ add-one last ∙ ap suc last_is))
 
-no-id : (w : World) → w.failing ≡ true → new_id w ≡ None
+pub no-id : (w : World) → w.failing ≡ true → new_id w ≡ None
 no-id w e = ap (λ b. cond b None (Some (suc (last_id w.table)))) e
 
 pub cast_steps : (r : Rules) (h : Held) (t : TableState MemRows) (at : Millis) (channel payload : List ℕ) (id : RowId) (s : Said) → id.0 ≡ h.table.last.0 + 1 → t.last ≡ id
@@ -131,7 +147,7 @@ cast_steps r h t at channel payload id s next last_is rows call is =
     (commit-shows {E = Unit {0}} (Ok id) h.table.keeper.rows t.keeper.rows h.table.last t.last None (offer_in channel payload at.0) next last_is rows w.table f.table.shows))
 
 -- rows and a last id that a refused call left
-left-as : (rows rows' : List Row) (last last' : RowId) (past : List TableStep) → rows' ≡ rows → last' ≡ last → Shows rows last.0 past → Shows rows' last'.0 past
+pub left-as : (rows rows' : List Row) (last last' : RowId) (past : List TableStep) → rows' ≡ rows → last' ≡ last → Shows rows last.0 past → Shows rows' last'.0 past
 left-as rows rows' last last' past same same_last shows =
     subst (λ (rs : List Row). Shows rs last'.0 past) (sym same) (subst (λ (i : RowId). Shows rows i.0 past) (sym same_last) shows)
 
@@ -193,7 +209,6 @@ fault_steps r h t told =
       home = f.home;
       rising = f.rising;
       works = f.works;
-      puts = f.puts;
       turn = turn-stays r w (with_fault w) h.turn (table-turn w w.table true (λ n. refl)) f.turn;
       table = subst (λ (x : TableState MemRows). IsTableOf x w.table true) (sym told) (record { shows = f.table.shows; unplanned = f.table.unplanned; failing_is = refl });
     }))

@@ -19,7 +19,8 @@ use Rattle.cable_model.specs.Table.{TableStep, contains, last_id, missed_note, n
 use Rattle.cable_model.specs.Wants.{lower}
 use Rattle.cable_model.specs.History.{Rules, World, deliver, hashes_of, held_names, logged, stored, turn_note}
 use Rattle.node_core.specs.Nodes.{NodeState, TakesNone, past}
-use Rattle.node_core.specs.Turned.{IsNextTurn, is_expected, note_in}
+use Rattle.node_core.specs.Turned.{IsNextTurn, is_expected}
+use Rattle.poll_turn.specs.Notes.{note_in}
 use Rattle.poll_turn.specs.Turns.{TurnState}
 use Rattle.table_core.specs.Keepers.{CallsOnce, KeeperFailures}
 use Rattle.table_core.specs.Memory.{MemRows}
@@ -58,7 +59,6 @@ asked book h n n' t w same_no grown taken next k f = record {
   home = f.home;
   rising = f.rising;
   works = works-stay (rules_of book) h w (Step.Ask (suc (last_turn (w.nodes 1)))) f (λ c. refl);
-  puts = f.puts;
   turn = record {
     out = refl;
     unread = ((sound-now (rules_of book) h w f).nodes 1).unread (suc (last_turn (w.nodes 1))) (omega arith);
@@ -189,7 +189,6 @@ delivered r h n n' k w same_no grown taken m number f = record {
   home = f.home;
   rising = f.rising;
   works = works-stay r h w (Step.Deliver (last_turn (w.nodes 1)) (note_in k.caught)) f (λ c. refl);
-  puts = f.puts;
   turn = refl;
   table = f.table;
 }

@@ -20,8 +20,8 @@ use Rattle.cable_script.specs.Reading.{verb_of}
 use Rattle.cable_script.proofs.Cuts.{Cut, either_false, cut_is, cut_of}
 use Rattle.cable_script.proofs.GrammarRead.{line_is, line_of}
 use Rattle.cable_script.proofs.WordsRead.{bind_is, bind_of, word_is, word_found}
-use Rattle.replay_cli.specs.Built.{is_built_book, is_built_verb, IsBuilt}
-use Rattle.replay_cli.specs.Reading.{line_text, short_line, short_verb_of, built_verb_of, verbs_of, declared_in, book_in, parts_of, first_line, behind_header, script_with, script_of, Read}
+use Rattle.replay_cli.specs.Built.{is_built_verb, IsBuilt}
+use Rattle.replay_cli.specs.Reading.{line_text, short_line, short_verb_of, built_verb_of, verbs_of, book_in, parts_of, first_line, behind_header, script_with, script_of, Read}
 use Rattle.replay_cli.specs.Scripts.{IsBuiltScript}
 
 -- ---- the text of a line
@@ -51,9 +51,9 @@ record IsBuiltLine (line : List ℕ) (v : Verb) : Type 0 where
   spells : Spells v line
   built : is_built_verb v ≡ true
 
-ok_is : (r : Result Verb LineFault) (v : Verb) → result_ok r ≡ Some v → r ≡ Ok v
-ok_is (Ok w) v e = ap (λ (x : Verb). Ok x) (same_Some w v e)
-ok_is (Err f) v e = absurd cc
+ok_is : {X F : Type 0} (r : Result X F) (x : X) → result_ok r ≡ Some x → r ≡ Ok x
+ok_is {X} {F} (Ok y) x e = ap (λ (z : X). let r : Result X F = Ok z in r) (same_Some y x e)
+ok_is (Err f) x e = absurd cc
 
 -- a line that was read is short enough, is text, and spells its verb
 record IsRead (line : List ℕ) (v : Verb) : Type 0 where
@@ -201,16 +201,11 @@ header_found : (rest : List ℕ) → behind_header (header ++ 10 ∷ rest) ≡ S
 header_found rest =
     bind_of (first_line (header ++ 10 ∷ rest)) (λ (p : List ℕ × List ℕ). cond (bytes_eq p.0 header) (Some p.1) None) (header, rest) rest (first_found header rest refl) refl
 
-declared_is : (r : Result Declared BookFault) (book : Declared) → declared_in r ≡ Some book → (r ≡ Ok book) × (is_built_book book ≡ true)
-declared_is (Ok b) book e = let c = cond_some _ b book e in (ap (λ (x : Declared). Ok x) c.1, subst (λ (x : Declared). is_built_book x ≡ true) c.1 c.0)
-declared_is (Err f) book e = absurd cc
-
 -- the line of a book, with its text
 record IsBook (line : List ℕ) (book : Declared) : Type 0 where
   text : List ℕ
   spelled : line ≡ book_line text
   declares : book_of text ≡ Ok book
-  built : is_built_book book ≡ true
 
 no_book : (book : Declared) → None ≡ Some book → ⊥
 no_book book e = absurd cc
@@ -221,21 +216,20 @@ book_is line book e =
     let cut = word_is line text.0 text.1.0 in
     by_test text.0 cut.parts (bytes_eq (first_word line) (codes "book")) refl text.1.1
   where
-    by_test : (text : List ℕ) → line ≡ first_word line ++ 32 ∷ text → (b : Bool) → bytes_eq (first_word line) (codes "book") ≡ b → cond b (declared_in (book_of text)) None ≡ Some book → IsBook line book
+    by_test : (text : List ℕ) → line ≡ first_word line ++ 32 ∷ text → (b : Bool) → bytes_eq (first_word line) (codes "book") ≡ b → cond b (result_ok (book_of text)) None ≡ Some book → IsBook line book
     by_test text parts false t e = absurd (no_book book e)
     by_test text parts true t e = record {
       text = text;
       spelled = subst (λ (w : List ℕ). line ≡ w ++ 32 ∷ text) ((bytes_eq-Decides (first_word line) (codes "book")).0 t) parts;
-      declares = (declared_is (book_of text) book e).0;
-      built = (declared_is (book_of text) book e).1;
+      declares = ok_is (book_of text) book e;
     }
 
-book_found : (text : List ℕ) (book : Declared) → book_of text ≡ Ok book → is_built_book book ≡ true → book_in (book_line text) ≡ Some book
-book_found text book e built =
+book_found : (text : List ℕ) (book : Declared) → book_of text ≡ Ok book → book_in (book_line text) ≡ Some book
+book_found text book e =
     let w = word_found (codes "book") text refl in
-    let declared : declared_in (book_of text) ≡ Some book = ap (λ (r : Result Declared BookFault). declared_in r) e ∙ rw built refl in
-    bind_of (after_word (book_line text)) (λ (t : List ℕ). cond (bytes_eq (first_word (book_line text)) (codes "book")) (declared_in (book_of t)) None) text book w.1
-    (subst (λ (name : List ℕ). cond (bytes_eq name (codes "book")) (declared_in (book_of text)) None ≡ Some book) (sym w.0) declared)
+    let declared : result_ok (book_of text) ≡ Some book = ap (λ (r : Result Declared BookFault). result_ok r) e in
+    bind_of (after_word (book_line text)) (λ (t : List ℕ). cond (bytes_eq (first_word (book_line text)) (codes "book")) (result_ok (book_of t)) None) text book w.1
+    (subst (λ (name : List ℕ). cond (bytes_eq name (codes "book")) (result_ok (book_of text)) None ≡ Some book) (sym w.0) declared)
 
 -- ---- the script
 
@@ -259,8 +253,7 @@ whole_is bytes line rest s whole one t book b r =
     let lines = fronts (parts_of rest) in
     let joined : rest ≡ bytes_of_lines lines = sym (join_with_byte-slice_split 10 rest) ∙ fronts_joined (parts_of rest) s.verbs r.verbs in
     let behind : bytes ≡ header ++ 10 ∷ (line ++ 10 ∷ bytes_of_lines lines) = subst (λ (x : List ℕ). bytes ≡ header ++ 10 ∷ (line ++ 10 ∷ x)) joined whole in
-    let isline : IsLine line = record { utf8 = t.utf8; short = t.short; one = one } in
-    let built : list_all is_built_verb s.verbs ≡ true = fronts_built (parts_of rest) s.verbs r.verbs in (
+    let isline : IsLine line = record { utf8 = t.utf8; short = t.short; one = one } in (
       record {
         text = b.text;
         lines = lines;
@@ -269,10 +262,7 @@ whole_is bytes line rest s whole one t book b r =
         declares = subst (λ (k : Declared). book_of b.text ≡ Ok k) r.same_book b.declares;
         spelled = fronts_spell (parts_of rest) s.verbs (parts_feedless rest) r.verbs;
       },
-      record {
-        quiet = subst (λ (k : Declared). is_built_book k ≡ true) r.same_book b.built;
-        each = built;
-      },
+      fronts_built (parts_of rest) s.verbs r.verbs,
     )
 
 -- what is read as a script is a built script
@@ -289,12 +279,12 @@ script_read bytes s e =
     (subst (λ (l : List ℕ). IsBook l book.0) (sym t.1) (book_is line.0 book.0 book.1.0))
     (rest_is book.0 second.0.1 s book.1.1)
 
-rest_found : (lines : List (List ℕ)) (s : Read) → AllSpell s.verbs lines → IsBuilt s.book s.verbs → script_with s.book (bytes_of_lines lines) ≡ Some s
+rest_found : (lines : List (List ℕ)) (s : Read) → AllSpell s.verbs lines → IsBuilt s.verbs → script_with s.book (bytes_of_lines lines) ≡ Some s
 rest_found lines s spelled b =
-    bind_of (verbs_of (parts_of (bytes_of_lines lines))) (λ (vs : List Verb). Some (record { book = s.book; verbs = vs })) s.verbs s (verbs_found s.verbs lines spelled b.each) refl
+    bind_of (verbs_of (parts_of (bytes_of_lines lines))) (λ (vs : List Verb). Some (record { book = s.book; verbs = vs })) s.verbs s (verbs_found s.verbs lines spelled b) refl
 
 -- a built script is read
-pub script_found : (bytes : List ℕ) (s : Read) → IsScript bytes s.book s.verbs → IsBuilt s.book s.verbs → script_of bytes ≡ Some s
+pub script_found : (bytes : List ℕ) (s : Read) → IsScript bytes s.book s.verbs → IsBuilt s.verbs → script_of bytes ≡ Some s
 script_found bytes s i b =
     let line = book_line i.text in
     let rest = bytes_of_lines i.lines in
@@ -302,4 +292,4 @@ script_found bytes s i b =
     (bind_of _ _ (line ++ 10 ∷ rest) s (header_found (line ++ 10 ∷ rest))
     (bind_of _ _ (line, rest) s (first_found line rest i.second.one)
     (bind_of _ _ line s (text_of line i.second)
-    (bind_of _ _ s.book s (book_found i.text s.book i.declares b.quiet) (rest_found i.lines s i.spelled b)))))
+    (bind_of _ _ s.book s (book_found i.text s.book i.declares) (rest_found i.lines s i.spelled b)))))

@@ -2,6 +2,7 @@
 use Rattle.std.proofs.Common.{◌≡◌, ℕ, ◌==◌, Bool, true, false, cond, not, List, [], ◌∷◌, Option, Some, None, refl, sym, ap, subst, ◌∙◌, arith}
 use Rattle.std.specs.Prelude.{is_some, ltb, option_map}
 use Rattle.std.proofs.lemmas.Bool.Decides.{nat_tests}
+use Rattle.cable_base.specs.declared.numbers.RowId.{RowId}
 use Rattle.cable_base.specs.declared.rows.Row.{Row}
 use Rattle.cable_json.specs.Commands.{command_of}
 use Rattle.cable_model.specs.declared.pieces.Piece.{Piece}
@@ -17,7 +18,6 @@ use Rattle.cable_model.specs.Promise.{AllWorked}
 use Rattle.cable_model.specs.Window.{job, finished}
 use Rattle.cable_model.proofs.JobsStay.{job-more, keeps_job, job-plan-stays, unopened-user}
 use Rattle.cable_model.proofs.Working.{Working, working}
-use Rattle.node_core.specs.Jobs.{task_out}
 use Rattle.replay_cli.specs.declared.outstanding.OutWork.{OutWork}
 use Rattle.replay_cli.specs.Sessions.{IsWorkOf, IsWorkAt}
 
@@ -87,19 +87,21 @@ task-stays s t same = by-out (has_job s) refl
         ap (λ x. cond x (option_map (task_of t.conn) (job t)) None) (has-stays s t same ∙ b) ∙ sym (ap (λ x. cond x (option_map (task_of s.conn) (job s)) None) b)
 
 module _ (r : Callbacks) (c : ℕ) (past now : List Step) (same : SameJob (seat c past) (seat c now)) where
-  work-moves : (o : Option OutWork) → ((k : OutWork) → o ≡ Some k → job_plan r c now ≡ job_plan r c past) → IsWorkAt r c past o → IsWorkAt r c now o
-  work-moves None plan h = has-stays (seat c past) (seat c now) same ∙ h
-  work-moves (Some k) plan h = record {
+  work-moves : (puts : List (Option RowId)) (o : Option OutWork) → ((k : OutWork) → o ≡ Some k → job_plan r c now ≡ job_plan r c past) → IsWorkAt r c past puts o → IsWorkAt r c now puts o
+  work-moves puts None plan h = has-stays (seat c past) (seat c now) same ∙ h
+  work-moves puts (Some k) plan h = record {
     conn = h.conn;
     node = h.node;
     place = h.place ∙ sym same.taken;
     task = task-stays (seat c past) (seat c now) same ∙ h.task;
     plan = plan k refl ∙ h.plan;
-    puts = h.puts;
+    puts_are = h.puts_are;
+    noted = h.noted;
   }
 
-pub work-stays : (pl : Planner) (r : Callbacks) (c : ℕ) (e : Step) (past : List Step) (o : Option OutWork) → AllWorked pl c past → keeps_job c e ≡ true → IsWorkAt r c past o → IsWorkAt r c (e ∷ past) o
-work-stays pl r c e past o a keeps h = work-moves r c past (e ∷ past) (seat-stays pl c e past a keeps) o (λ k at. job-plan-stays pl r c e past a keeps) h
+pub work-stays : (pl : Planner) (r : Callbacks) (c : ℕ) (e : Step) (past : List Step) (puts : List (Option RowId)) (o : Option OutWork) → AllWorked pl c past → keeps_job c e ≡ true → IsWorkAt r c past puts o
+    → IsWorkAt r c (e ∷ past) puts o
+work-stays pl r c e past puts o a keeps h = work-moves r c past (e ∷ past) (seat-stays pl c e past a keeps) puts o (λ k at. job-plan-stays pl r c e past a keeps) h
 
 -- a job's connection has a user
 pub no-plan : (r : Callbacks) (c : ℕ) (past : List Step) → user_of c past ≡ None → job_plan r c past ≡ None
@@ -110,15 +112,15 @@ no-plan r c past u = by-out (has_job (seat c past)) (user_of c past) u
     by-out false o e = refl
     by-out true (Some user) e = absurd cc
 
-pub work-opens : (r : Callbacks) (c d : ℕ) (token : List ℕ) (user : Option (List ℕ)) (past : List Step) (o : Option OutWork) → is_opened d past ≡ false → IsWorkAt r c past o
-    → IsWorkAt r c (Step.Open d token user ∷ past) o
-work-opens r c d token user past o free h = work-moves r c past (Step.Open d token user ∷ past) (same-self (seat c past)) o plan-is h
+pub work-opens : (r : Callbacks) (c d : ℕ) (token : List ℕ) (user : Option (List ℕ)) (past : List Step) (puts : List (Option RowId)) (o : Option OutWork) → is_opened d past ≡ false → IsWorkAt r c past puts o
+    → IsWorkAt r c (Step.Open d token user ∷ past) puts o
+work-opens r c d token user past puts o free h = work-moves r c past (Step.Open d token user ∷ past) (same-self (seat c past)) puts o plan-is h
   where
     plan-is : (k : OutWork) → o ≡ Some k → job_plan r c (Step.Open d token user ∷ past) ≡ job_plan r c past
     plan-is k at = by-test (d == c) refl
       where
-        out : IsWorkOf r c past k.work
-        out = subst (IsWorkAt r c past) at h
+        out : IsWorkOf r c past puts k.work
+        out = subst (IsWorkAt r c past puts) at h
 
         by-test : (b : Bool) → (d == c) ≡ b
             → cond (has_job (seat c past)) (planned r (cond b user (user_of c past)) (seat c past).conn (job (seat c past))) None ≡ job_plan r c past

@@ -3,7 +3,6 @@ use Rattle.std.specs.Prelude.{◌≡◌, ◌==◌, ⊤, ℕ, Bool, ◌&&◌, nat
 use Rattle.std.specs.List.{slice_split, before_first, after_first, position_or_len}
 use Rattle.std.specs.Result.{result_ok}
 use Rattle.std.specs.Str.{is_utf8}
-use Rattle.channel_book.specs.declared.faults.BookFault.{BookFault}
 use Rattle.channel_book.specs.Shapes.{Declared}
 use Rattle.channel_book.specs.Books.{book_of}
 use Rattle.cable_model.specs.declared.verbs.Verb.{Verb}
@@ -12,7 +11,7 @@ use Rattle.cable_script.specs.Words.{◌>>=◌, first_word, after_word}
 use Rattle.cable_script.specs.Reading.{verb_of}
 use Rattle.replay_cli.specs.declared.scripts.Unread.{Unread}
 use Rattle.replay_cli.specs.declared.scripts.Unread.TheVariants as unread
-use Rattle.replay_cli.specs.Built.{is_built_book, is_built_verb}
+use Rattle.replay_cli.specs.Built.{is_built_verb}
 
 -- reading gave, seen by view, what is expected, unless memory ran out
 abbrev pub Fails : {Y : Type 0} → Unread → Option Y → Type 0
@@ -47,16 +46,11 @@ verbs_of [] = None
 verbs_of (line ∷ []) = if length line == 0 then Some [] else None
 verbs_of (line ∷ next ∷ parts) = built_verb_of line >>= λ verb. (verbs_of (next ∷ parts) >>= λ verbs. Some (verb ∷ verbs))
 
--- a book that is built
-abbrev pub declared_in : Result Declared BookFault → Option Declared
-declared_in (Ok book) = if is_built_book book then Some book else None
-declared_in (Err fault) = None
-
 -- ---- the script
 
 -- the book of the second line's text
 abbrev pub book_in : List ℕ → Option Declared
-book_in line = after_word line >>= λ text. (if bytes_eq (first_word line) (codes "book") then declared_in (book_of text) else None)
+book_in line = after_word line >>= λ text. (if bytes_eq (first_word line) (codes "book") then result_ok (book_of text) else None)
 
 abbrev pub is_feed : ℕ → Bool
 is_feed b = b == 10

@@ -4,6 +4,6 @@ use Rattle.cable_model.specs.Script.{IsScript}
 use Rattle.replay_cli.specs.Built.{IsBuilt}
 use Rattle.replay_cli.specs.Reading.{Read}
 
--- the bytes are a script with this book and these verbs, and it is built
+-- the bytes are a script with this book and these verbs, and its lines are built
 abbrev pub IsBuiltScript : List ℕ → Read → Type 0
-IsBuiltScript bytes s = IsScript bytes s.book s.verbs × IsBuilt s.book s.verbs
+IsBuiltScript bytes s = IsScript bytes s.book s.verbs × IsBuilt s.verbs

@@ -1,10 +1,10 @@
 -- What a running session holds, and when it follows a history of the model.
-use Rattle.std.specs.Prelude.{◌≡◌, ℕ, ℤ, length, Bool, true, false, cond, List, [], ◌∷◌, Option, None, Some, Ok}
+use Rattle.std.specs.Prelude.{◌≡◌, ◌≤◌, ◌<◌, ℕ, ℤ, length, Bool, true, false, cond, List, [], ◌∷◌, Option, None, Some}
 use Rattle.std.specs.BTreeMap.{is_at}
 use Rattle.std.specs.List.Sorted.{IsStrictlySortedBy}
 use Rattle.std.specs.Map.{lookup, keys_of}
 use Rattle.std.specs.Ordering.{nat_cmp}
-use Rattle.channel_book.specs.declared.answers.Answer.{Answer}
+use Rattle.cable_base.specs.declared.numbers.RowId.{RowId}
 use Rattle.cable_model.specs.declared.events.Event.{Event}
 use Rattle.cable_model.specs.declared.events.Event.TheVariants as event
 use Rattle.cable_model.specs.declared.lines.Line.TheVariants as line
@@ -12,15 +12,16 @@ use Rattle.cable_model.specs.declared.notes.Note.TheVariants as note
 use Rattle.cable_model.specs.Plans.{Callbacks}
 use Rattle.cable_model.specs.Pieces.{seat}
 use Rattle.cable_model.specs.Steps.{Step}
-use Rattle.cable_model.specs.Possible.{is_opened, is_booted, is_out, last_turn, has_job, job_plan}
+use Rattle.cable_model.specs.Possible.{is_opened, is_booted, is_out, last_turn, has_cast_left, has_job, job_plan}
 use Rattle.cable_model.specs.Table.{TableStep, contains}
 use Rattle.cable_model.specs.Wants.{lower}
 use Rattle.cable_model.specs.History.{Rules, World, start, is_idle, happen, run, caught, hashes_of}
 use Rattle.cable_model.specs.Transcript.{said, queued}
 use Rattle.node_core.specs.Jobs.{WorkState, task_out}
 use Rattle.node_core.specs.Nodes.{NodeState, past, taken_out}
-use Rattle.node_core.specs.Turned.{note_in}
+use Rattle.poll_turn.specs.Notes.{note_in}
 use Rattle.poll_turn.specs.Turns.{TurnState, CaughtState}
+use Rattle.table_core.specs.Keepers.{moment_limit}
 use Rattle.table_core.specs.Memory.{MemRows}
 use Rattle.table_core.specs.Shown.{Shows}
 use Rattle.table_core.specs.Tables.{TableState, IsWithinLimits}
@@ -60,22 +61,28 @@ home_on c past = cond (is_opened c past) (Some 1) None
 
 -- ---- works
 
--- the work is that of the job that is out on c, for which no commit was made
-pub record IsWorkOf (r : Callbacks) (c : ℕ) (steps : List Step) (k : WorkState) : Type 0 where
+-- the work is that of the job that is out on c, for which these commits were made
+pub record IsWorkOf (r : Callbacks) (c : ℕ) (steps : List Step) (puts : List (Option RowId)) (k : WorkState) : Type 0 where
   pub conn : k.conn.0 ≡ c
   pub node : k.node.0 ≡ 1
   pub place : k.place ≡ (seat c steps).taken
   pub task : task_out c steps ≡ Some k.task
   pub plan : job_plan r c steps ≡ Some k.plan
-  pub puts : k.puts ≡ []
+  pub puts_are : k.puts ≡ puts
+  pub noted : length k.puts ≤ length k.plan.casts
 
 -- a work is kept exactly where a job is out
-abbrev pub IsWorkAt : Callbacks → ℕ → List Step → Option OutWork → Type 0
-IsWorkAt r c steps None = has_job (seat c steps) ≡ false
-IsWorkAt r c steps (Some k) = IsWorkOf r c steps k.work
+abbrev pub IsWorkAt : Callbacks → ℕ → List Step → List (Option RowId) → Option OutWork → Type 0
+IsWorkAt r c steps puts None = has_job (seat c steps) ≡ false
+IsWorkAt r c steps puts (Some k) = IsWorkOf r c steps puts k.work
 
 abbrev pub work_at : ℕ → List (ℕ × OutWork) → Option OutWork
 work_at c works = lookup (is_at (nat_cmp c)) works
+
+-- a cast of the work is left to be committed
+abbrev pub is_left : Option OutWork → Bool
+is_left None = false
+is_left (Some k) = has_cast_left k.work.puts (Some k.work.plan)
 
 -- ---- the turn
 
@@ -116,8 +123,7 @@ pub record FollowsWorld (r : Rules) (h : Held) (w : World) : Type 0 where
   pub node : IsNode h.node (w.nodes 1)
   pub home : (c : ℕ) → w.home c ≡ home_on c (w.nodes 1)
   pub rising : IsStrictlySortedBy nat_cmp (keys_of h.works)
-  pub works : (c : ℕ) → IsWorkAt r.callbacks c (w.nodes 1) (work_at c h.works)
-  pub puts : (c : ℕ) → w.puts c ≡ []
+  pub works : (c : ℕ) → IsWorkAt r.callbacks c (w.nodes 1) (w.puts c) (work_at c h.works)
   pub turn : IsTurnIn r w h.turn
   pub table : IsTableOf h.table w.table w.failing
 
@@ -148,13 +154,7 @@ pub record StepsAs (r : Rules) (e : Event) (old : Held) (said_is : Said) (new : 
   pub lines : (w : World) → FollowsWorld r old w → said_is.lines ≡ said r w e
   pub follows : (w : World) → FollowsWorld r old w → FollowsWorld r new (happen r w e)
 
--- no answer has broadcasts
-pub record NoCasts (r : Callbacks) : Type 0 where
-  pub subscribed : (user identifier : List ℕ) (a : Answer) → r.subscribed user identifier ≡ Ok a → a.casts ≡ []
-  pub unsubscribed : (user identifier : List ℕ) (a : Answer) → r.unsubscribed user identifier ≡ Ok a → a.casts ≡ []
-  pub perform : (user identifier payload : List ℕ) (a : Answer) → r.perform user identifier payload ≡ Ok a → a.casts ≡ []
-
--- the events that a session of this stage steps: those of node 1, and those of the table within its limits
+-- the events that a session of this stage steps: those of node 1, and those that write to the table within its limits
 abbrev pub IsPlayed : Event → Type 0
 IsPlayed (event.Boot node) = node.0 ≡ 1
 IsPlayed (event.Open node conn token) = node.0 ≡ 1
@@ -162,7 +162,7 @@ IsPlayed (event.In conn text) = Unit {0}
 IsPlayed (event.Drop conn) = Unit {0}
 IsPlayed (event.Stop node) = node.0 ≡ 1
 IsPlayed (event.Take conn) = Unit {0}
-IsPlayed (event.Put conn at) = Unit {0}
+IsPlayed (event.Put conn at) = at.0 < moment_limit
 IsPlayed (event.Finish conn) = Unit {0}
 IsPlayed (event.Cast at channel payload) = IsWithinLimits channel payload at.0
 IsPlayed (event.Trim now retention batch) = Unit {0}

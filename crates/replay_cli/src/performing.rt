@@ -1,7 +1,7 @@
 ghost use Rattle.std.specs.Prelude.{◌≡◌, ◌+◌, ◌^◌, ◌<◌, ◌≤◌, All, length, OnOk};
 ghost use Rattle.cable_model.specs.History.{World};
-ghost use Rattle.cable_model.specs.Script.{callbacks_of, rules_of};
-ghost use Rattle.replay_cli.specs.Sessions.{held, FollowsWorld, FollowsSome, NoCasts};
+ghost use Rattle.cable_model.specs.Script.{rules_of};
+ghost use Rattle.replay_cli.specs.Sessions.{held, FollowsWorld, FollowsSome};
 ghost use Rattle.replay_cli.specs.Running.{IsPlayedLine};
 ghost use Rattle.replay_cli.specs.Replay.{Works, Performs};
 
@@ -24,7 +24,6 @@ pub fn work_line<K: Sink>(
     sink: &mut K,
     tally: &mut Tally,
 ) -> Result<(), Trouble>
-    requires plain { NoCasts (callbacks_of session.old.book) }
     requires stands { FollowsSome (rules_of session.old.book) (held session.old) }
     requires played { IsPlayedLine verb.now }
     requires events { tally.old.events + 1002 < 2 ^ 64 }
@@ -54,7 +53,6 @@ pub fn perform<K: Sink>(
     script: Script,
     sink: &mut K,
 ) -> Result<(), Trouble>
-    requires plain { NoCasts (callbacks_of script.book) }
     requires played { All IsPlayedLine script.verbs.items }
     requires few { length script.verbs.items ≤ 2 ^ 40 }
     ensures { Performs mode (record { book = script.book; verbs = script.verbs.items }) (record {

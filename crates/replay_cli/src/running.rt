@@ -1,7 +1,7 @@
 ghost use Rattle.std.specs.Prelude.{◌≡◌, ◌+◌, ◌<◌, ◌≤◌, ◌^◌, ◌∷◌, [], All, IfOk, OnOk, length};
-ghost use Rattle.cable_model.specs.Script.{callbacks_of, rules_of};
+ghost use Rattle.cable_model.specs.Script.{rules_of};
 ghost use Rattle.cable_model.specs.Transcript.{with_line, with_lines, no_totals};
-ghost use Rattle.replay_cli.specs.Sessions.{held, FollowsSome, IsPlayed, NoCasts};
+ghost use Rattle.replay_cli.specs.Sessions.{held, FollowsSome, IsPlayed};
 ghost use Rattle.replay_cli.specs.Running.{RunsAs};
 
 use crate::printing::push_lines;
@@ -72,7 +72,6 @@ fn run_event(
     text: &mut Vec<u8>,
     tally: &mut Tally,
 ) -> Result<(), OutOfMemory>
-    requires plain { NoCasts (callbacks_of session.old.book) }
     requires stands { FollowsSome (rules_of session.old.book) (held session.old) }
     requires played { IsPlayed event.now }
     requires events { tally.old.events + 1 < 2 ^ 64 }
@@ -99,7 +98,6 @@ pub fn run_events(
     text: &mut Vec<u8>,
     tally: &mut Tally,
 ) -> Result<(), OutOfMemory>
-    requires plain { NoCasts (callbacks_of session.old.book) }
     requires stands { FollowsSome (rules_of session.old.book) (held session.old) }
     requires played { All IsPlayed events.now }
     requires events { tally.old.events + length events.now < 2 ^ 64 }

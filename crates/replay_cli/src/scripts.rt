@@ -1,12 +1,11 @@
 ghost use Rattle.std.specs.Prelude.{◌≡◌, ◌+◌, ◌≤◌, length, option_map, position, Some, None, bytes_eq, codes, if◌then◌else◌, IfOk};
-ghost use Rattle.std.specs.List.{list_all};
-ghost use Rattle.replay_cli.specs.Built.{is_quiet_action, is_quiet, is_built_book, is_built_event, is_built_verb};
+ghost use Rattle.replay_cli.specs.Built.{is_built_event, is_built_verb};
 ghost use Rattle.replay_cli.specs.Reading.{Gives, first_line, is_feed, behind_header, line_text, book_in, short_verb_of, built_verb_of, verbs_of, parts_of, script_with, script_of};
 
 use cable_base::OutOfMemory;
 use cable_model::{Event, Verb};
 use cable_script::{LineFault, cut_word, read_line, utf8_text};
-use channel_book::{Action, Book, BookFault, Channel};
+use channel_book::{Book, BookFault};
 use std::alloc::{AllocFailed, Global};
 
 const HEADER: &[u8] = b"cable-script 1";
@@ -85,35 +84,6 @@ fn line_text(line: &[u8]) -> Option<&str>
     }
 }
 
-/// An action that broadcasts nothing.
-fn is_quiet_action(action: &Action) -> bool
-    ensures { result ≡ is_quiet_action action.now }
-{
-    action.casts.as_slice().is_empty()
-}
-
-fn are_quiet(actions: &[Action]) -> bool
-    ensures { result ≡ list_all is_quiet_action actions.now }
-{
-    actions.iter().all(is_quiet_action)
-}
-
-/// A channel that broadcasts nothing.
-fn is_quiet(channel: &Channel) -> bool
-    ensures { result ≡ is_quiet channel.now }
-{
-    let rules = &channel.rules;
-    rules.enter.as_slice().is_empty()
-        && rules.leave.as_slice().is_empty()
-        && are_quiet(rules.actions.as_slice())
-}
-
-fn is_built_book(book: &Book) -> bool
-    ensures { result ≡ is_built_book book.now }
-{
-    book.channels().iter().all(is_quiet)
-}
-
 /// Reads the line of the book.
 fn read_book(alloc: Global, line: &str) -> Result<Book, Unread>
     ensures { Gives (λ b. b) result (book_in line.now) }
@@ -125,15 +95,10 @@ fn read_book(alloc: Global, line: &str) -> Result<Book, Unread>
     if word != "book" {
         return Err(Unread::NotBuilt);
     }
-    let book = match Book::read(alloc, text) {
-        Ok(book) => book,
-        Err(BookFault::OutOfMemory) => return Err(Unread::OutOfMemory),
-        Err(_) => return Err(Unread::NotBuilt),
-    };
-    if is_built_book(&book) {
-        Ok(book)
-    } else {
-        Err(Unread::NotBuilt)
+    match Book::read(alloc, text) {
+        Ok(book) => Ok(book),
+        Err(BookFault::OutOfMemory) => Err(Unread::OutOfMemory),
+        Err(_) => Err(Unread::NotBuilt),
     }
 }
 
@@ -151,11 +116,11 @@ fn is_built_event(event: &Event) -> bool
         Event::In { .. }
         | Event::Drop { .. }
         | Event::Take { .. }
+        | Event::Put { .. }
         | Event::Finish { .. }
         | Event::Cast { .. }
         | Event::Trim { .. }
         | Event::Fault => true,
-        Event::Put { .. } => false,
     }
 }
 

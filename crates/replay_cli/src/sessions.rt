@@ -1,12 +1,14 @@
 ghost use Rattle.std.specs.Prelude.{◌≡◌, ◌<◌, ◌∷◌, true, IfOk, OnOk};
 ghost use Rattle.cable_model.specs.declared.events.Event.TheVariants as event;
-ghost use Rattle.cable_model.specs.Script.{callbacks_of, rules_of};
+ghost use Rattle.cable_model.specs.Script.{rules_of};
 ghost use Rattle.cable_model.specs.History.{start};
 ghost use Rattle.cable_model.specs.Steps.{Step};
 ghost use Rattle.node_core.specs.Nodes.{past, TakesNone};
-ghost use Rattle.node_core.specs.Turned.{is_expected, note_in};
+ghost use Rattle.node_core.specs.Turned.{is_expected};
+ghost use Rattle.poll_turn.specs.Notes.{note_in};
+ghost use Rattle.table_core.specs.Keepers.{moment_limit};
 ghost use Rattle.table_core.specs.Tables.{IsWithinLimits};
-ghost use Rattle.replay_cli.specs.Sessions.{held, StepsAs, FollowsWorld, FollowsSome, IsPlayed, NoCasts};
+ghost use Rattle.replay_cli.specs.Sessions.{held, work_at, is_left, StepsAs, FollowsWorld, FollowsSome, IsPlayed};
 
 use crate::draining::{drain, drain_each};
 use crate::outstanding::{OutCaught, OutTurn, OutWork, TurnOut};
@@ -57,6 +59,16 @@ fn deliver_counted<L: Ledger>(
             caught.give_up();
             Err(OutOfMemory)
         }
+    }
+}
+
+/// Whether a cast of the connection's work is left to be committed.
+fn has_cast_left(works: &BTreeMap<u64, OutWork>, conn: ConnNo) -> bool
+    ensures { result ≡ is_left (work_at conn.0 works.now.entries) }
+{
+    match works.get(&conn.0) {
+        Some(out) => out.work.next_cast().is_some(),
+        None => false,
     }
 }
 
@@ -167,8 +179,33 @@ impl Session {
         Ok(silent(alloc))
     }
 
+    /// Ids that are spent are a count that would pass its end, which is answered as want of memory.
+    fn put(&mut self, alloc: Global, conn: ConnNo, at: Millis) -> Result<Said, OutOfMemory>
+        requires moment { at.0 < moment_limit }
+        ensures steps { IfOk result (λ s. StepsAs (rules_of self.old.book) (event.Put conn at) (held self.old) s (held self.new)) }
+        ensures book { self.new.book ≡ self.old.book }
+    {
+        let Some(out) = self.works.get_mut(&conn.0) else {
+            return Ok(idle(alloc));
+        };
+        let Some(cast) = out.work.next_cast() else {
+            return Ok(idle(alloc));
+        };
+        let (channel, payload) = (cast.channel.as_str(), cast.payload.as_str());
+        match self.table.commit(Origin::Conn(conn), channel, payload, at) {
+            Ok(id) => {
+                out.work.noted(Some(id));
+                one_line(alloc, Line::Row { id })
+            }
+            Err(StoreFault::Failed) => {
+                out.work.noted(None);
+                noted(alloc, conn, Note::StoreRefused)
+            }
+            Err(StoreFault::IdsSpent | StoreFault::OutOfMemory) => Err(OutOfMemory),
+        }
+    }
+
     fn finish(&mut self, alloc: Global, conn: ConnNo) -> Result<Said, OutOfMemory>
-        requires plain { NoCasts (callbacks_of self.old.book) }
         requires stands { FollowsSome (rules_of self.old.book) (held self.old) }
         ensures steps { IfOk result (λ s. StepsAs (rules_of self.old.book) (event.Finish conn) (held self.old) s (held self.new)) }
         ensures book { self.new.book ≡ self.old.book }
@@ -176,6 +213,9 @@ impl Session {
         let Some(node) = &mut self.node else {
             return Ok(idle(alloc));
         };
+        if has_cast_left(&self.works, conn) {
+            return Ok(idle(alloc));
+        }
         let Some(out) = self.works.remove(&conn.0) else {
             return Ok(idle(alloc));
         };
@@ -303,7 +343,6 @@ impl Session {
 
     /// Steps one event.
     pub fn step(&mut self, alloc: Global, event: &Event) -> Result<Said, OutOfMemory>
-        requires plain { NoCasts (callbacks_of self.old.book) }
         requires stands { FollowsSome (rules_of self.old.book) (held self.old) }
         requires played { IsPlayed event.now }
         ensures steps { IfOk result (λ s. StepsAs (rules_of self.old.book) event.now (held self.old) s (held self.new)) }
@@ -320,7 +359,7 @@ impl Session {
             Event::Drop { conn } => self.leave(alloc, *conn),
             Event::Stop { node: _ } => self.stop(alloc),
             Event::Take { conn } => self.take(alloc, *conn),
-            Event::Put { conn: _, at: _ } => Ok(idle(alloc)),
+            Event::Put { conn, at } => self.put(alloc, *conn, *at),
             Event::Finish { conn } => self.finish(alloc, *conn),
             Event::Ask { node: _ } => self.ask(alloc),
             Event::Read { node: _ } => self.read(alloc),

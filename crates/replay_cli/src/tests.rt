@@ -80,7 +80,7 @@ fn what_is_not_built_is_refused(rt: HostRuntime) -> Result<(), Fail> {
         "open 1 1000000000 t1\n",
         "in 7\n",
         "work 7 0 1001\n",
-        "put 7 0\n",
+        "put 7 9007199254740992\n",
         "stop 2\n",
         "beat 2 0\n",
         "poll 2\n",
@@ -98,9 +98,6 @@ fn what_is_not_built_is_refused(rt: HostRuntime) -> Result<(), Fail> {
         "cable-script 1\n",
         "cable-script 2\n",
         "cable-script 1\nbook {}\n",
-        "cable-script 1\nbook {\"channels\":[{\"name\":\"A\",\"enter\":[{\"to\":\"a\",\"payload\":\"1\"}]}]}\n",
-        "cable-script 1\nbook {\"channels\":[{\"name\":\"A\",\"leave\":[{\"to\":\"a\",\"payload\":\"1\"}]}]}\n",
-        "cable-script 1\nbook {\"channels\":[{\"name\":\"A\",\"actions\":[{\"name\":\"b\",\"casts\":[\"a\"]}]}]}\n",
     ] {
         let (status, silent) = replays(alloc, text, 100, 0, 0, "")?;
         assert_eq!(rt; status, NOT_BUILT, "{text}");
@@ -255,6 +252,20 @@ fn polls_bring_what_was_cast(rt: HostRuntime) -> Result<(), Fail> {
         "cable-script 1\nbook {\"tokens\":{\"t1\":\"alice\"},\"channels\":[{\"name\":\"Chat\",\"streams\":[\"room\"]}]}\nread 1\nboot 1\nopen 1 7 t1\nin 7 {\"command\":\"subscribe\",\"identifier\":\"{\\\"channel\\\":\\\"Chat\\\"}\"}\nwork 7 0 0\ncast 0 room 1\npoll 1\nwork 7 0 0\ncast 5 room {\"a\": 2}\ncast 5 hall 3\nfault\npoll 1\nask 1\nask 1\nread 1\nread 1\ndeliver 1\ndeliver 1\nwork 7 0 0\n";
     let wanted =
         "7 {\"type\":\"welcome\"}\n- row 1\n7 {\"identifier\":\"{\\\"channel\\\":\\\"Chat\\\"}\",\"type\":\"confirm_subscription\"}\n- row 2\n- row 3\n- ! store-refused\n7 {\"identifier\":\"{\\\"channel\\\":\\\"Chat\\\"}\",\"message\":{\"a\":2}}\nend events=26 idle=4\n";
+    let (status, same) = replays(alloc, text, 64, 0, 0, wanted)?;
+    assert_eq!(rt; status, Status::Ok);
+    assert!(rt; same);
+    Ok(())
+}
+
+#[test]
+fn works_commit_their_casts(rt: HostRuntime) -> Result<(), Fail> {
+    let alloc = rt.alloc();
+    // The second commit of the first work fails, and counts as made. The last event before the poll has no cast left.
+    let text =
+        "cable-script 1\nbook {\"tokens\":{\"t1\":\"alice\"},\"channels\":[{\"name\":\"Chat\",\"streams\":[\"room\"],\"enter\":[{\"to\":\"hall\",\"payload\":\"1\"},{\"to\":\"hall\",\"payload\":\"2\"}],\"actions\":[{\"name\":\"speak\",\"casts\":[\"room\"]}]}]}\nput 7 0\nboot 1\nopen 1 7 t1\nput 7 0\nin 7 {\"command\":\"subscribe\",\"identifier\":\"{\\\"channel\\\":\\\"Chat\\\"}\"}\ntake 7\nfinish 7\nput 7 0\nfault\nfinish 7\nput 7 0\nput 7 0\nfinish 7\npoll 1\nwork 7 0 0\nin 7 {\"command\":\"message\",\"identifier\":\"{\\\"channel\\\":\\\"Chat\\\"}\",\"data\":\"{\\\"action\\\": \\\"speak\\\"}\"}\nwork 7 5 2\npoll 1\nwork 7 5 0\n";
+    let wanted =
+        "7 {\"type\":\"welcome\"}\n- row 1\n7 ! store-refused\n7 {\"identifier\":\"{\\\"channel\\\":\\\"Chat\\\"}\",\"type\":\"confirm_subscription\"}\n- row 2\n7 {\"identifier\":\"{\\\"channel\\\":\\\"Chat\\\"}\",\"message\":{\"action\":\"speak\"}}\nend events=28 idle=6\n";
     let (status, same) = replays(alloc, text, 64, 0, 0, wanted)?;
     assert_eq!(rt; status, Status::Ok);
     assert!(rt; same);

@@ -8,7 +8,8 @@ use Rattle.cable_model.specs.Table.{Offer, TableStep, note_of, oldest, row_with}
 use Rattle.table_core.specs.Keepers.{without}
 use Rattle.poll_turn.specs.Turns.{CaughtState}
 use Rattle.table_core.specs.Shown.{Shows}
-use Rattle.table_core.specs.Tables.{note_in, read_note}
+use Rattle.table_core.specs.Tables.{read_note}
+use Rattle.poll_turn.specs.Notes.{note_in}
 use Rattle.table_core.proofs.Following.{commits_follow, reads_follow, trims_follow}
 
 -- a commit that went well

@@ -10,7 +10,8 @@ use Rattle.cable_model.specs.Table.{id_or, upto_of, up_to, note_with, is_old, ol
 use Rattle.cable_model.proofs.Delivered.{id_of}
 use Rattle.cable_model.specs.Limits.{page_rows}
 use Rattle.table_core.specs.Keepers.{is_before, first_before, is_sought, sought, without}
-use Rattle.table_core.specs.Tables.{IsTable, note_in, read_note}
+use Rattle.table_core.specs.Tables.{IsTable, read_note}
+use Rattle.poll_turn.specs.Notes.{note_in}
 use Rattle.table_core.proofs.Keeping.{table-rises}
 
 none-above : (top b e : ℕ) (rows : List Row) → Rises id_of b rows e → top ≤ b → up_to top rows ≡ []

@@ -2,4 +2,5 @@ pub mod Keepers
 pub mod Memory
 pub mod Inside
 pub mod Tables
+pub mod Stores
 pub mod Shown

@@ -1,10 +1,9 @@
 -- What the calls of a table do.
-use Rattle.std.specs.Prelude.{◌≡◌, ◌≤◌, ◌<◌, ℕ, ℤ, List, Option, IfSome, length}
+use Rattle.std.specs.Prelude.{◌≡◌, ◌≤◌, ◌<◌, ℕ, ℤ, List, Option, IfSome}
 use Rattle.std.specs.List.{All}
-use Rattle.cable_base.specs.Squeeze.{IsSqueezedJson}
 use Rattle.cable_base.specs.declared.numbers.RowId.{RowId}
 use Rattle.cable_base.specs.declared.rows.Row.{Row}
-use Rattle.cable_model.specs.Limits.{most_name, most_payload, page_rows}
+use Rattle.cable_model.specs.Limits.{CanBeRow, page_rows}
 use Rattle.cable_model.specs.Table.{note_with, upto_of}
 use Rattle.cable_model.specs.declared.journals.ReadNote.{ReadNote}
 use Rattle.poll_turn.specs.Turns.{CaughtState, TurnState}
@@ -27,9 +26,7 @@ pub record IsTable (told : Option (List Row)) (last : ℕ) : Type 0 where
 
 -- the name, the payload and the moment are within the limits, and the payload is squeezed JSON
 pub record IsWithinLimits (channel payload : List ℕ) (at : ℕ) : Type 0 where
-  pub channel_len : length channel ≤ most_name
-  pub payload_len : length payload ≤ most_payload
-  pub message : IsSqueezedJson payload
+  pub row : CanBeRow channel payload
   pub moment : at < moment_limit
 
 -- what a turn caught is what that turn asked for
@@ -37,10 +34,6 @@ pub record IsCaughtOf (turn : TurnState) (caught : CaughtState) : Type 0 where
   pub node : caught.node ≡ turn.node
   pub number : caught.number ≡ turn.number
   pub lower : caught.lower ≡ turn.lower
-
--- what a turn caught, as its note
-abbrev pub note_in : CaughtState → ReadNote
-note_in c = record { failed = c.is_missed; lower = c.lower; upto = c.upto; last = c.last; rows = c.rows }
 
 -- the note of a turn that reads these rows, where the last id is this one
 abbrev pub read_note : (low last : ℕ) → List ℤ → List Row → ReadNote

@@ -5,6 +5,7 @@ mod faults;
 mod keepers;
 mod laws;
 mod memory;
+mod stores;
 mod tables;
 
 pub use faults::{KeeperFault, StoreFault};
@@ -14,6 +15,7 @@ pub use laws::{
     refusals_follow_the_journal, trims_follow_the_journal,
 };
 pub use memory::MemKeeper;
+pub use stores::{Reads, Store};
 pub use tables::{NotStarted, Table};
 
 #[cfg(test)]

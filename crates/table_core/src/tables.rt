@@ -7,7 +7,8 @@ ghost use Rattle.cable_model.specs.Table.{missed_note, oldest, row_with, upto_of
 ghost use Rattle.table_core.specs.declared.faults.StoreFault.TheVariants as store_fault;
 ghost use Rattle.table_core.specs.Keepers.{CallsOnce, greatest_id, most_id, without};
 ghost use Rattle.table_core.specs.Memory.{told_to_fail};
-ghost use Rattle.table_core.specs.Tables.{EndsAt, IsCaughtOf, IsTable, IsWithinLimits, TableState, note_in, read_note};
+ghost use Rattle.table_core.specs.Tables.{EndsAt, IsCaughtOf, IsTable, IsWithinLimits, TableState, read_note};
+ghost use Rattle.poll_turn.specs.Notes.{note_in};
 
 use crate::faults::{KeeperFault, StoreFault};
 use crate::keepers::Keeper;

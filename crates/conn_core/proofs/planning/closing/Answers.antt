@@ -1,4 +1,4 @@
-use Rattle.conn_core.proofs.Broadcasts.{kept-more, notes-more, faults-more}
+use Rattle.conn_core.proofs.Broadcasts.{kept-more, notes-more, faults-more, more_committable}
 use Rattle.conn_core.proofs.planning.closing.Goals as goal
 
 pub loop-identifier-preserved : goal.loop-identifier-preserved
@@ -7,5 +7,6 @@ loop-identifier-preserved g c =
     record {
       kept = kept-more left _ _ c.identifier-item.result _ _ c.loop-identifier-test.true c.identifier-item.is c.loop-identifier.invariant.kept (rw (← c.as_str.ensures) c.in_ok-leave.ensures.kept);
       notes = notes-more left _ _ c.identifier-item.result _ _ c.loop-identifier-test.true c.identifier-item.is c.loop-identifier.invariant.notes (rw (← c.as_str.ensures) c.in_ok-leave.ensures.notes);
+      rows = more_committable _ _ _ c.loop-identifier.invariant.rows c.in_ok-leave.ensures.kept c.in_ok-leave.ensures.rows;
       faults = faults-more left _ _ c.identifier-item.result _ _ c.loop-identifier-test.true c.identifier-item.is c.loop-identifier.invariant.faults (rw (← c.as_str.ensures) c.in_ok-leave.ensures.faults);
     }

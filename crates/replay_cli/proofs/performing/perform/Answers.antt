@@ -5,13 +5,13 @@ use Rattle.channel_book.specs.Shapes.{Declared}
 use Rattle.cable_model.specs.declared.events.Event.{Event}
 use Rattle.cable_model.specs.declared.verbs.Verb.{Verb}
 use Rattle.cable_model.specs.History.{start, run, World}
-use Rattle.cable_model.specs.Script.{callbacks_of, rules_of, expand, expand_all}
+use Rattle.cable_model.specs.Script.{rules_of, expand, expand_all}
 use Rattle.std.specs.Io.KnownBytes.{Appends}
 use Rattle.cable_model.specs.declared.lines.Totals.{Totals}
 use Rattle.cable_model.specs.Transcript.{said_all, idle_count, lines_text, no_totals, totals_of}
 use Rattle.replay_cli.specs.Modes.{tail_of}
 use Rattle.replay_cli.specs.Reading.{Read}
-use Rattle.replay_cli.specs.Sessions.{held, FollowsWorld, FollowsSome, NoCasts}
+use Rattle.replay_cli.specs.Sessions.{held, FollowsWorld, FollowsSome}
 use Rattle.replay_cli.specs.Replay.{Works}
 use Rattle.replay_cli.proofs.PerformedLines.{expand_all-more, took_more, performs_unbegun, performs_refused, performs_unended, performs_end, tail_for, verbs_parts}
 use Rattle.replay_cli.proofs.RunsOn.{run-append, idle_count-append, totals-append}
@@ -95,9 +95,6 @@ returns g c =
     ∙ ap (λ (t : Totals). tail_of c.args.mode (length (expand_all s.verbs)) (idle_count r start (expand_all s.verbs)) t) (i.totals ∙ ap (λ (es : List Event). totals_of (said_all r start es)) all) in
     let took = subst (λ (es : List Event). Appends (g.K.Sink.taken c.args.sink.now) (g.K.Sink.taken c.loop-verb.sink) (lines_text (said_all r start es))) all i.took in
     performs_end c.args.mode s c.as_bytes.result.now c.write_all.result _ (g.K.Sink.taken c.loop-verb.sink) _ _ (g.K.Sink.faults c.loop-verb.sink) _ tail took i.faults c.write_all.ensures.wrote
-
-pub work_line-requires-clause-plain : goal.work_line-requires-clause-plain
-work_line-requires-clause-plain g c = subst (λ (b : Declared). NoCasts (callbacks_of b)) (sym c.loop-verb.invariant.book) c.requires.plain
 
 pub work_line-requires-clause-stands : goal.work_line-requires-clause-stands
 work_line-requires-clause-stands g c =

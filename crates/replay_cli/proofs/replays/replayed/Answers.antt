@@ -1,7 +1,6 @@
 use Rattle.std.proofs.Common.{◌≡◌, Some, List, ℕ, sym, subst, ◌∙◌, inr}
 use Rattle.replay_cli.specs.Reading.{Read, script_of}
 use Rattle.replay_cli.proofs.BuiltPlayed.{all_played}
-use Rattle.replay_cli.proofs.QuietBooks.{no_answer_casts}
 use Rattle.replay_cli.proofs.ScriptsRead.{script_read}
 use Rattle.replay_cli.proofs.replays.replayed.Goals as goal
 
@@ -9,12 +8,7 @@ pub perform-requires-clause-played : goal.perform-requires-clause-played
 perform-requires-clause-played g c =
     let s : Read = record { book = c.in-Ok-read_script.script.book; verbs = c.in-Ok-read_script.script.verbs.items } in
     let read = script_read c.deref.result.now s c.in-Ok-read_script.ensures.read in
-    all_played c.squeezing_keeps_the_value.ensures.squeezed s.verbs read.0.lines read.0.spelled read.1.each
-
-pub perform-requires-clause-plain : goal.perform-requires-clause-plain
-perform-requires-clause-plain g c =
-    let s : Read = record { book = c.in-Ok-read_script.script.book; verbs = c.in-Ok-read_script.script.verbs.items } in
-    no_answer_casts s.book (script_read c.deref.result.now s c.in-Ok-read_script.ensures.read).1.quiet
+    all_played c.squeezing_keeps_the_value.ensures.squeezed s.verbs read.0.lines read.0.spelled read.1
 
 pub returns-in-Ok-perform-clause-outcome : goal.returns-in-Ok-perform-clause-outcome
 returns-in-Ok-perform-clause-outcome g c =

@@ -3,9 +3,9 @@ use Rattle.std.proofs.lemmas.List.{take_more}
 use Rattle.channel_book.specs.Shapes.{Declared}
 use Rattle.cable_model.specs.declared.events.Event.{Event}
 use Rattle.cable_model.specs.History.{run}
-use Rattle.cable_model.specs.Script.{callbacks_of, rules_of}
+use Rattle.cable_model.specs.Script.{rules_of}
 use Rattle.replay_cli.specs.Running.{RunsAs}
-use Rattle.replay_cli.specs.Sessions.{held, FollowsSome, NoCasts}
+use Rattle.replay_cli.specs.Sessions.{held, FollowsSome}
 use Rattle.replay_cli.proofs.RunsOn.{runs_on}
 use Rattle.replay_cli.proofs.running.run_events.Goals as goal
 
@@ -22,9 +22,6 @@ loop-event-preserved c =
       idle = c.in_ok-run_event.ensures.idle;
       book = c.run_event.ensures.book ∙ i.book;
     }
-
-pub run_event-requires-clause-plain : goal.run_event-requires-clause-plain
-run_event-requires-clause-plain c = subst (λ (b : Declared). NoCasts (callbacks_of b)) (sym c.loop-event.invariant.book) c.requires.plain
 
 pub run_event-requires-clause-stands : goal.run_event-requires-clause-stands
 run_event-requires-clause-stands c =

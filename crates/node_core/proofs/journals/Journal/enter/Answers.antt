@@ -1,4 +1,4 @@
-use Rattle.std.proofs.Common.{◌≡◌, [], refl, sym, ap, ◌∙◌}
+use Rattle.std.proofs.Common.{[]}
 use Rattle.node_core.proofs.Keeping.{laid-push, on-ok}
 use Rattle.node_core.proofs.journals.Journal.enter.Goals as goal
 

@@ -1,6 +1,7 @@
-use Rattle.std.proofs.Common.{◌≡◌, ◌∙◌, refl, sym, ap}
+use Rattle.std.proofs.Common.{rules, ◌∙◌, refl, sym}
 use Rattle.std.proofs.lemmas.Result.{err_from_is_err_and}
 use Rattle.node_core.proofs.Telling.{worked, fault-at, refuses-text, wants-memory, nothing-wanting}
+use Rattle.node_core.proofs.StayingReady.{goes-nowhere}
 use Rattle.node_core.proofs.nodes.Node.arrive.Goals as goal
 
 pub returns-in-Some-clause-fault : goal.returns-in-Some-clause-fault
@@ -31,3 +32,6 @@ returns-clause-fault c =
     (nothing-wanting _ _ _
     (sym (fault-at _ c.self.inside.seats.entries c.args.conn.0 c.args.text.now (worked _ c.self.invariant.0.legal) c.self.invariant.0.numbers)
     ∙ (sym c.text_fault.ensures ∙ c.in_default.is)))
+
+pub returns-in-Some-clause-goes : goal.returns-in-Some-clause-goes
+returns-in-Some-clause-goes c = rw (← c.self.view_is) (goes-nowhere _ _ c.self.invariant.0 c.self.invariant.2 (search rules))

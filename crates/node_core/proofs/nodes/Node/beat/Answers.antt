@@ -1,11 +1,11 @@
-use Rattle.std.proofs.Common.{◌≡◌, ◌∙◌, List, map, refl, sym, ap, subst}
-use Rattle.cable_base.specs.declared.numbers.ConnNo.{ConnNo}
-use Rattle.std.specs.List.{list_any}
+use Rattle.std.proofs.Common.{rules, ◌∙◌, List, [], map, refl, sym, ap, subst}
 use Rattle.node_core.specs.Nodes.{ping_of}
 use Rattle.node_outbox.specs.declared.outs.Queued.{Queued}
-use Rattle.node_outbox.specs.Outboxes.{HasRoomFor, Queues}
+use Rattle.node_outbox.specs.Outboxes.{HasRoomFor}
 use Rattle.node_core.proofs.Speaking.{beats, beat-room}
+use Rattle.node_core.proofs.Refreshing.{looks-none}
 use Rattle.node_core.proofs.Standing.{room-out, room-left}
+use Rattle.node_core.proofs.StayingReady.{goes-nowhere, goes-on}
 use Rattle.node_core.proofs.nodes.Node.beat.Goals as goal
 
 pub put_all-requires : goal.put_all-requires
@@ -22,4 +22,23 @@ invariant_of-self-2 c =
     let said = rw (c.in_ok-queued.ensures, c.deref.ensures.value, c.in_ok-conns.ensures) at c.put_all.ensures in (
       rw (c.enter.ensures.entered, c.in_ok-reserve.ensures.kept) (beats c.args.now.0 _ (room-out c.reserve_each.new.self c.self.invariant.0 c.in_ok-reserve_each.ensures.same) said),
       room-left _ c.reserve.new.self c.enter.new.self c.in_ok-reserve.ensures.log c.in_ok-reserve.ensures.beside c.enter.ensures.log c.enter.ensures.beside,
+      c.self.invariant.2,
     )
+
+pub returns-clause-goes : goal.returns-clause-goes
+returns-clause-goes c =
+    rw (← c.self.view_is)
+    (goes-on _ _ c.self.inside.seats.entries [] c.self.inside.ready.waiting (invariant_of-self-2 c).0 (λ d. c.put_all.ensures.taken d ∙ c.in_ok-reserve_each.ensures.same.taken d) (λ d. c.put_all.ensures.forgotten d ∙ c.in_ok-reserve_each.ensures.same.forgotten d) (λ d e. refl) c.self.invariant.2 refl
+    (looks-none _ _ _ refl))
+
+pub returns-in_err-conns-clause-goes : goal.returns-in_err-conns-clause-goes
+returns-in_err-conns-clause-goes c = rw (← c.self.view_is) (goes-nowhere _ _ c.self.invariant.0 c.self.invariant.2 (search rules))
+
+pub returns-in_err-queued-clause-goes : goal.returns-in_err-queued-clause-goes
+returns-in_err-queued-clause-goes c = rw (← c.self.view_is) (goes-nowhere _ _ c.self.invariant.0 c.self.invariant.2 (search rules))
+
+pub returns-in_err-reserve_each-clause-goes : goal.returns-in_err-reserve_each-clause-goes
+returns-in_err-reserve_each-clause-goes c = rw (← c.self.view_is) (goes-nowhere _ _ c.self.invariant.0 c.self.invariant.2 (search rules))
+
+pub returns-in_err-reserve-clause-goes : goal.returns-in_err-reserve-clause-goes
+returns-in_err-reserve-clause-goes c = rw (← c.self.view_is) (goes-nowhere _ _ c.self.invariant.0 c.self.invariant.2 (search rules))

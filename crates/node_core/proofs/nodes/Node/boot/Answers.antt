@@ -1,9 +1,10 @@
-use Rattle.std.proofs.Common.{◌≡◌, ◌∙◌, refl, sym, ap}
+use Rattle.std.proofs.Common.{refl}
 use Rattle.node_core.proofs.Standing.{boots, no-turn}
 use Rattle.node_core.proofs.nodes.Node.boot.Goals as goal
 
 pub invariant_of-result : goal.invariant_of-result
 invariant_of-result c = (
-  rw (c.in_ok-journal.ensures, c.empty.ensures, c.at.ensures, c.empty-3.ensures, c.empty-4.ensures.wanted, c.empty-4.ensures.taken) (boots c.args.last c.empty-2.result c.empty-2.ensures),
+  rw (c.in_ok-journal.ensures, c.empty.ensures, c.at.ensures, c.empty-3.ensures, c.empty-4.ensures.wanted, c.empty-4.ensures.taken) (boots c.args.last c.empty-2.result c.empty-2.ensures.nothing),
   no-turn _ c.args.last.0 c.in_ok-journal.journal c.in_ok-journal.ensures,
+  rw (c.empty.ensures, c.empty-5.ensures) (λ d. refl),
 )

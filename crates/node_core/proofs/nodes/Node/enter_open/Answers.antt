@@ -1,4 +1,4 @@
-use Rattle.std.proofs.Common.{◌≡◌, ◌∙◌, ℕ, List, [], ◌∷◌, ◌++◌, Option, refl, sym, ap, subst}
+use Rattle.std.proofs.Common.{◌∙◌, ℕ, List, [], ◌∷◌, Option, refl, ap, subst}
 use Rattle.cable_model.specs.Journal.{Kept, past_of, user_beside}
 use Rattle.cable_model.specs.Steps.{Step}
 use Rattle.cable_model.specs.Transcript.{greeting}
@@ -7,10 +7,10 @@ use Rattle.node_outbox.specs.declared.outs.Queued.{Queued}
 use Rattle.node_outbox.specs.Outboxes.{Queues}
 use Rattle.node_core.specs.Opening.{OpensAs}
 use Rattle.node_core.proofs.Openings.{can-open, unused-at, room-for}
+use Rattle.node_core.proofs.Refreshing.{looks-none}
 use Rattle.node_core.proofs.Speaking.{opens-to}
 use Rattle.node_core.proofs.Standing.{room-left}
-use Rattle.node_seats.specs.declared.turning.Wanted.{Wanted}
-use Rattle.turn_wants.specs.Wished.{own_wanted}
+use Rattle.node_core.proofs.StayingReady.{alike-opened, goes-on, still-so}
 use Rattle.node_core.proofs.nodes.Node.enter_open.Goals as goal
 
 pub keep-requires-clause-unused : goal.keep-requires-clause-unused
@@ -41,4 +41,15 @@ invariant_of-self-2 g c =
           user c.in_ok-reserve-2.ensures.wanted c.want_own.ensures.wanted
           (c.want_own.ensures.taken ∙ c.in_ok-reserve-2.ensures.taken),
       room-left _ c.reserve-3.new.self c.enter.new.self c.in_ok-reserve-3.ensures.log c.in_ok-reserve-3.ensures.beside c.enter.ensures.log c.enter.ensures.beside,
+      still-so c.self.inside.seats.entries c.keep.new.seats.entries _ _
+          (alike-opened c.args.conn.0 _ _ _ (unused-at c.args.conn.0 _ c.self.inside.seats.entries c.self.invariant.0.numbers can) c.in_ok-keep.ensures.opens) c.self.invariant.2 refl,
     )
+
+pub returns-clause-goes : goal.returns-clause-goes
+returns-clause-goes g c =
+    let none = rw (← c.self.view_is) at c.requires in
+    let unused = unused-at c.args.conn.0 _ c.self.inside.seats.entries c.self.invariant.0.numbers (can-open c.args.conn.0 _ none) in
+    let alike = alike-opened c.args.conn.0 _ _ _ unused c.in_ok-keep.ensures.opens in
+    rw (← c.self.view_is)
+    (goes-on _ _ c.self.inside.seats.entries [] c.self.inside.ready.waiting (invariant_of-self-2 g c).0 (λ d. c.put_all.ensures.taken d ∙ c.in_ok-reserve.ensures.same.taken d) (λ d. c.put_all.ensures.forgotten d ∙ c.in_ok-reserve.ensures.same.forgotten d) (λ d e. alike d.0) c.self.invariant.2 refl
+    (looks-none _ _ _ refl))

@@ -6,7 +6,7 @@ use Rattle.node_core.proofs.nodes.Node.fits.Goals as goal
 
 pub returns : goal.returns
 returns c =
-    let n : NodeState = record { no = c.self.inside.no; kept = c.self.inside.journal.kept; outs = c.self.inside.outboxes } in
+    let n : NodeState = record { no = c.self.inside.no; kept = c.self.inside.journal.kept; outs = c.self.inside.outboxes; ready = c.self.inside.ready.waiting } in
     let w : WorkState = record { node = c.work.inside.node; conn = c.work.inside.conn; place = c.work.inside.place; task = c.work.inside.task; plan = c.work.inside.plan; puts = c.work.inside.puts.items } in
     let node : c.work.inside.node ≡ c.self.inside.no = search rules in
     let done : length c.work.inside.puts.items ≡ length c.work.inside.plan.casts = search rules in

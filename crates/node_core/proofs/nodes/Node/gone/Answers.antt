@@ -1,4 +1,5 @@
-use Rattle.std.proofs.Common.{◌≡◌, ◌∙◌, refl, sym, ap}
+use Rattle.std.proofs.Common.{rules, ◌∙◌, [], ◌∷◌, refl, sym}
+use Rattle.node_core.proofs.StayingReady.{alike-moved, goes-nowhere, goes-on, still-ready}
 use Rattle.node_core.proofs.Telling.{worked, receiving-at}
 use Rattle.node_core.proofs.Standing.{goes, room-left}
 use Rattle.node_core.proofs.nodes.Node.gone.Goals as goal
@@ -12,9 +13,10 @@ returns-then-not-is_receiving-clause-answer c =
 pub invariant_of-self-2 : goal.invariant_of-self-2
 invariant_of-self-2 c =
     let is = receiving-at _ c.self.inside.seats.entries c.args.conn.0 (worked _ c.self.invariant.0.legal) c.self.invariant.0.numbers in (
-      rw (c.enter.ensures.entered, c.in_ok-reserve.ensures.kept)
+      rw (c.enter.ensures.entered, c.in_ok-reserve-2.ensures.kept)
           (goes c.args.conn.0 _ c.self.invariant.0 (sym is ∙ (sym c.is_receiving.ensures ∙ c.if-not-is_receiving.false)) c.in_ok-put.ensures.ok),
-      room-left _ c.reserve.new.self c.enter.new.self c.in_ok-reserve.ensures.log c.in_ok-reserve.ensures.beside c.enter.ensures.log c.enter.ensures.beside,
+      room-left _ c.reserve-2.new.self c.enter.new.self c.in_ok-reserve-2.ensures.log c.in_ok-reserve-2.ensures.beside c.enter.ensures.log c.enter.ensures.beside,
+      still-ready c.self.inside.seats.entries c.put.new.self.entries (c.args.conn ∷ []) _ _ _ (alike-moved c.args.conn _ _ _ c.in_ok-put.ensures.ok) c.self.invariant.2 c.in_ok-reserve.ensures.same.waiting c.refresh.ensures.refreshes,
     )
 
 pub returns-clause-answer : goal.returns-clause-answer
@@ -22,3 +24,17 @@ returns-clause-answer c =
     rw (← c.self.view_is)
     (sym (sym c.is_receiving.ensures ∙ c.if-not-is_receiving.false)
     ∙ receiving-at _ c.self.inside.seats.entries c.args.conn.0 (worked _ c.self.invariant.0.legal) c.self.invariant.0.numbers)
+
+pub returns-clause-goes : goal.returns-clause-goes
+returns-clause-goes c =
+    rw (← c.self.view_is)
+    (goes-on _ _ c.self.inside.seats.entries (c.args.conn ∷ []) c.reserve.new.self.waiting (invariant_of-self-2 c).0 (λ d. refl) (λ d. refl) (alike-moved c.args.conn _ _ _ c.in_ok-put.ensures.ok) c.self.invariant.2 c.in_ok-reserve.ensures.same.waiting c.refresh.ensures.refreshes)
+
+pub returns-then-not-is_receiving-clause-goes : goal.returns-then-not-is_receiving-clause-goes
+returns-then-not-is_receiving-clause-goes c = rw (← c.self.view_is) (goes-nowhere _ _ c.self.invariant.0 c.self.invariant.2 (search rules))
+
+pub returns-in_err-reserve-clause-goes : goal.returns-in_err-reserve-clause-goes
+returns-in_err-reserve-clause-goes c = rw (← c.self.view_is) (goes-nowhere _ _ c.self.invariant.0 c.self.invariant.2 (search rules))
+
+pub returns-in_err-reserve-2-clause-goes : goal.returns-in_err-reserve-2-clause-goes
+returns-in_err-reserve-2-clause-goes c = rw (← c.self.view_is) (goes-nowhere _ _ c.self.invariant.0 c.self.invariant.2 (search rules))

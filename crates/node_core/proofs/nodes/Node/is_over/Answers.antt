@@ -1,4 +1,4 @@
-use Rattle.std.proofs.Common.{◌≡◌, ◌∙◌, refl, sym, ap}
+use Rattle.std.proofs.Common.{◌∙◌}
 use Rattle.node_seats.proofs.Counting.{over-is}
 use Rattle.node_core.proofs.nodes.Node.is_over.Goals as goal
 

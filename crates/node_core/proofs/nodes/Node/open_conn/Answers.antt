@@ -1,4 +1,4 @@
-use Rattle.std.proofs.Common.{◌≡◌, ◌∙◌, refl, sym, ap}
+use Rattle.std.proofs.Common.{refl}
 use Rattle.std.proofs.lemmas.Result.{err_from_is_err_and}
 use Rattle.cable_model.specs.Journal.{past_of}
 use Rattle.node_core.proofs.Openings.{refuses-open, is-used, is-full, used-at, full-at, may-open, wants-memory, nothing-wanting}

@@ -1,4 +1,4 @@
-use Rattle.std.proofs.Common.{◌≡◌, ◌∙◌, ap, map}
+use Rattle.std.proofs.Common.{◌∙◌, ap, map}
 use Rattle.cable_base.specs.declared.numbers.ConnNo.{ConnNo}
 use Rattle.node_seats.proofs.Counting.{receiving-all}
 use Rattle.node_core.proofs.Keeping.{if-implied}

@@ -1,4 +1,3 @@
-use Rattle.std.proofs.Common.{◌≡◌, ◌∙◌, refl, sym, ap}
 use Rattle.node_core.proofs.Standing.{queues-now}
 use Rattle.node_core.proofs.TakingOut.{takes-out, first-out}
 use Rattle.node_core.proofs.nodes.Node.take_out.Goals as goal
@@ -7,6 +6,7 @@ pub invariant_of-self : goal.invariant_of-self
 invariant_of-self c = (
   queues-now c.take_out.new.self c.self.invariant.0 (takes-out c.args.conn.0 _ c.self.inside.outboxes c.take_out.new.self c.self.invariant.0.queues c.take_out.result c.take_out.ensures),
   c.self.invariant.1,
+  c.self.invariant.2,
 )
 
 pub returns-clause-out : goal.returns-clause-out

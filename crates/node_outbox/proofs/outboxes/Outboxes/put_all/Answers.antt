@@ -1,7 +1,7 @@
 use Rattle.std.proofs.Common.{◌≡◌, ◌++◌, [], List, sym, ap, subst, ◌∙◌, arith, append-nil, drop_of_length-le}
 use Rattle.node_outbox.specs.declared.outs.Queued.{Queued}
 use Rattle.node_outbox.specs.Outboxes.{HasRoomFor, queue_at, outs_for}
-use Rattle.node_outbox.proofs.Putting.{room-first, room-rest, queue-rest, taken-rest}
+use Rattle.node_outbox.proofs.Putting.{room-first, room-rest, queue-rest, taken-rest, forgotten-rest}
 use Rattle.node_outbox.proofs.outboxes.Outboxes.put_all.Goals as goal
 
 pub put-requires : goal.put-requires
@@ -15,6 +15,7 @@ loop-one-preserved c =
       room = room-rest c.in-Some.one rest c.loop-one.self c.put.new.self c.put.ensures (subst (λ (qs : List Queued). HasRoomFor qs c.loop-one.self) steps c.loop-one.invariant.room);
       queue = λ d. queue-rest c.in-Some.one rest c.loop-one.self c.put.new.self c.put.ensures d ∙ ap (λ qs. queue_at d c.loop-one.self ++ outs_for d qs) (sym steps) ∙ c.loop-one.invariant.queue d;
       taken = λ d. taken-rest c.in-Some.one c.loop-one.self c.put.new.self c.put.ensures d ∙ c.loop-one.invariant.taken d;
+      forgotten = λ d. forgotten-rest c.in-Some.one c.loop-one.self c.put.new.self c.put.ensures d ∙ c.loop-one.invariant.forgotten d;
     }
 
 pub returns : goal.returns
@@ -24,4 +25,5 @@ returns c =
     record {
       queue = λ d. sym (append-nil (queue_at d c.loop-one.self)) ∙ ap (λ qs. queue_at d c.loop-one.self ++ outs_for d qs) (sym none) ∙ c.loop-one.invariant.queue d;
       taken = c.loop-one.invariant.taken;
+      forgotten = c.loop-one.invariant.forgotten;
     }

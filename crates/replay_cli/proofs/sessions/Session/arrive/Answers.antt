@@ -13,7 +13,7 @@ pub returns-in-Ok-clause-steps : goal.returns-in-Ok-clause-steps
 returns-in-Ok-clause-steps c =
     let e = c.in-Ok.ensures in
     rw c.silent.ensures
-    (arrive_steps (rules_of c.args.self.now.book) (held c.args.self.now) _ c.args.conn c.args.text.now c.in-Some.node c.arrive.new.self c.in-Some.is refl refl refl refl e.no e.ok e.taken
+    (arrive_steps (rules_of c.args.self.now.book) (held c.args.self.now) _ c.args.conn c.args.text.now c.in-Some.node c.arrive.new.self c.in-Some.is refl refl refl refl e.no e.ok e.goes.taken
     (text-put c.in-Ok.field-0 (text_fault c.args.conn.0 c.args.text.now (past c.in-Some.node)) e.fault))
 
 pub returns-in-Err-TooLong-clause-steps : goal.returns-in-Err-TooLong-clause-steps

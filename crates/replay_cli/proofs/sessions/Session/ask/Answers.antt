@@ -13,4 +13,4 @@ returns-clause-steps c =
     let entered = c.in_ok-turn.ensures.ok ∙ ap (λ b. cond b (Step.Ask (suc (last_turn (past n))) ∷ past n) (past n)) some in
     let free = not-true (is_out (past n)) (sym c.in_ok-turn.ensures.answer ∙ some) in
     rw c.silent.ensures
-    (ask_steps c.args.self.now.book (held c.args.self.now) n c.ask.new.self (record { turn = c.in-Some-2.turn }) c.in-Some.is c.in_ok-turn.ensures.no entered c.in_ok-turn.ensures.taken free (c.in_ok-turn.ensures.turn c.in-Some-2.turn c.in-Some-2.is))
+    (ask_steps c.args.self.now.book (held c.args.self.now) n c.ask.new.self (record { turn = c.in-Some-2.turn }) c.in-Some.is c.in_ok-turn.ensures.no entered c.in_ok-turn.ensures.goes.taken free (c.in_ok-turn.ensures.turn c.in-Some-2.turn c.in-Some-2.is))

@@ -12,7 +12,7 @@ drain_each-requires-clause-distinct c =
 
 pub drain_each-requires-clause-within : goal.drain_each-requires-clause-within
 drain_each-requires-clause-within c =
-    beat-within (rules_of c.args.self.now.book) (held c.args.self.now) c.requires.stands c.args.now.0 c.in-Some.node c.beat.new.self c.in-Some.is c.in_ok-beat.ensures.ok c.in_ok-beat.ensures.taken
+    beat-within (rules_of c.args.self.now.book) (held c.args.self.now) c.requires.stands c.args.now.0 c.in-Some.node c.beat.new.self c.in-Some.is c.in_ok-beat.ensures.ok c.in_ok-beat.ensures.goes.taken
 
 pub returns-clause-steps : goal.returns-clause-steps
 returns-clause-steps c =
@@ -20,5 +20,5 @@ returns-clause-steps c =
     let d = c.drain_each.ensures in
     ok-both c.drain_each.result _ _ _
     (λ said told taken. beat_steps (rules_of c.args.self.now.book) (held c.args.self.now) _ c.args.now c.in-Some.node c.beat.new.self c.drain_each.new.node c.deref.result.now said c.in-Some.is
-    (ap (map (λ (x : ConnNo). x.0)) c.deref.ensures.value ∙ c.in_ok-conns.ensures) e.ok e.taken refl refl refl refl e.no d.kept.0 d.kept.1 taken d.others told)
+    (ap (map (λ (x : ConnNo). x.0)) c.deref.ensures.value ∙ c.in_ok-conns.ensures) e.ok e.goes.taken refl refl refl refl e.no d.kept.0 d.kept.1 taken d.others told)
     d.lines d.taken

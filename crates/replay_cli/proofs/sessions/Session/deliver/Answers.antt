@@ -2,7 +2,8 @@ use Rattle.std.proofs.Common.{◌≡◌, ◌∷◌, true, refl, sym, ap, subst, 
 use Rattle.cable_model.specs.Script.{rules_of}
 use Rattle.cable_model.specs.Steps.{Step}
 use Rattle.node_core.specs.Nodes.{past}
-use Rattle.node_core.specs.Turned.{is_expected, note_in}
+use Rattle.node_core.specs.Turned.{is_expected}
+use Rattle.poll_turn.specs.Notes.{note_in}
 use Rattle.poll_turn.specs.Turns.{CaughtState}
 use Rattle.replay_cli.specs.Sessions.{held}
 use Rattle.replay_cli.proofs.FollowingTurns.{expects, deliver_steps}

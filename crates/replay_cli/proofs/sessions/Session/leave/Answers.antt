@@ -11,7 +11,7 @@ returns-then-not-branch-clause-steps c =
     let e = c.in_ok-gone.ensures in
     let done = c.if-not-branch.true in
     rw c.idle-then-not-branch.ensures
-    (drop_idle (rules_of c.args.self.now.book) (held c.args.self.now) _ c.args.conn c.in-Some.node c.gone.new.self c.in-Some.is refl refl refl refl e.no (e.same done).kept e.taken (sym done ∙ e.answer))
+    (drop_idle (rules_of c.args.self.now.book) (held c.args.self.now) _ c.args.conn c.in-Some.node c.gone.new.self c.in-Some.is refl refl refl refl e.no (e.same done).kept e.goes.taken (sym done ∙ e.answer))
 
 pub returns-clause-steps : goal.returns-clause-steps
 returns-clause-steps c =
@@ -19,4 +19,4 @@ returns-clause-steps c =
     let done = c.if-not-branch.false in
     rw c.silent.ensures
     (drop_steps (rules_of c.args.self.now.book) (held c.args.self.now) _ c.args.conn c.in-Some.node c.gone.new.self c.in-Some.is refl refl refl refl e.no
-    (e.ok ∙ ap (λ b. cond b (Step.Drop c.args.conn.0 ∷ past c.in-Some.node) (past c.in-Some.node)) done) e.taken (sym done ∙ e.answer))
+    (e.ok ∙ ap (λ b. cond b (Step.Drop c.args.conn.0 ∷ past c.in-Some.node) (past c.in-Some.node)) done) e.goes.taken (sym done ∙ e.answer))

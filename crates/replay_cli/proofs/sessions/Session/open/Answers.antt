@@ -10,7 +10,7 @@ use Rattle.replay_cli.proofs.sessions.Session.open.Goals as goal
 pub drain-requires : goal.drain-requires
 drain-requires c =
     let e = c.in-Ok.ensures in
-    open-within (rules_of c.args.self.now.book) (held c.args.self.now) c.requires.stands c.args.conn.0 c.args.token.now _ c.in-Some.node c.open_conn.new.self c.in-Some.is e.ok e.taken
+    open-within (rules_of c.args.self.now.book) (held c.args.self.now) c.requires.stands c.args.conn.0 c.args.token.now _ c.in-Some.node c.open_conn.new.self c.in-Some.is e.ok e.goes.taken
 
 pub returns-in-Ok-clause-steps : goal.returns-in-Ok-clause-steps
 returns-in-Ok-clause-steps c =
@@ -18,7 +18,7 @@ returns-in-Ok-clause-steps c =
     let d = c.drain.ensures in
     ok-both c.drain.result _ _ _
     (λ said told taken. open_steps (rules_of c.args.self.now.book) (held c.args.self.now) _ c.args.conn c.args.token.now c.in-Some.node c.open_conn.new.self c.drain.new.node said c.in-Some.is refl refl refl refl e.no
-    (open-done c.in-Ok.field-0 (open_fault c.args.conn.0 (past c.in-Some.node)) e.fault) e.ok e.taken d.kept.0 d.kept.1 taken d.others told)
+    (open-done c.in-Ok.field-0 (open_fault c.args.conn.0 (past c.in-Some.node)) e.fault) e.ok e.goes.taken d.kept.0 d.kept.1 taken d.others told)
     d.lines d.taken
 
 pub returns-in-Err-Used-clause-steps : goal.returns-in-Err-Used-clause-steps

@@ -1,0 +1,9 @@
+use Rattle.std.proofs.Common.{sym, ap, subst}
+use Rattle.conn_core.specs.Payloads.{AreCommittable}
+use Rattle.conn_core.proofs.Broadcasts.{first_committable}
+use Rattle.conn_core.proofs.planning.performed.Goals as goal
+
+pub returns-clause-casts : goal.returns-clause-casts
+returns-clause-casts c =
+    let kept = first_committable c.args.answer.casts c.behind-walked.result.kept _ (ap (λ w. w.kept) c.behind-walked.ensures) c.in_ok-add.ensures.kept c.requires.casts in
+    subst AreCommittable (sym c.casts-2.view_is) (subst AreCommittable (sym c.in_ok-casts.ensures.0) kept)
