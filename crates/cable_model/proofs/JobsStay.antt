@@ -190,8 +190,8 @@ userless-seat c (Step.Take d ∷ past) l u =
     ap (λ b. cond b (with_job (seat c past)) (seat c past)) (other-than c d past u live) ∙ userless-seat c past l.1 u
 userless-seat c (Step.Finish d puts plan ∷ past) l u = ap (λ b. cond b (with_plan (seat c past) plan) (seat c past)) other ∙ userless-seat c past l.1 u
   where
-    found : HasPlan l.0.0.0 d past plan
-    found = has-plan l.0.0.0 d past plan l.0.0.1
+    found : HasPlan l.0.0.callbacks d past plan
+    found = has-plan l.0.0.callbacks d past plan l.0.0.planned
 
     other : (d == c) ≡ false
     other = go (d == c) refl

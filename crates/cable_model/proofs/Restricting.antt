@@ -1,5 +1,5 @@
--- Whatever happens, each node's journal and the table's stay legal.
-use Rattle.std.proofs.Common.{ℕ, suc, ◌≡◌, ◌<◌, ◌≤◌, ◌==◌, Bool, true, false, cond, not, ◌&&◌, List, [], ◌∷◌, ◌++◌, length, Some, None, Option, refl, ap, sym, subst, ◌∙◌, arith, inl, inr, is_none, ltb, length-append}
+-- Whatever happens, each node's journal stays legal, where the callbacks always answer.
+use Rattle.std.proofs.Common.{ℕ, suc, ◌≡◌, ◌<◌, ◌≤◌, ◌==◌, Bool, true, false, cond, not, ◌&&◌, List, [], ◌∷◌, ◌++◌, length, Some, None, Option, refl, ap, sym, subst, ◌∙◌, arith, inr, is_none, ltb, length-append}
 use Rattle.std.specs.Prelude.{unwrap_or}
 use Rattle.std.proofs.lemmas.Bool.Decides.{nat_tests}
 use Rattle.cable_base.specs.declared.numbers.RowId.{RowId}
@@ -11,12 +11,15 @@ use Rattle.cable_model.specs.declared.plans.Plan.{Plan}
 use Rattle.cable_model.specs.Steps.{Step}
 use Rattle.cable_model.specs.Wants.{lower, user_of}
 use Rattle.cable_model.specs.Pieces.{seat, unseated}
-use Rattle.cable_model.specs.Table.{Offer, TableStep, last_id, note_of, missed_note, read_of, trimmed}
+use Rattle.cable_model.specs.Table.{TableStep, last_id, note_of, missed_note, read_of}
+use Rattle.cable_model.specs.Plans.{AlwaysAnswer, task_of}
 use Rattle.cable_model.specs.Possible.{can_open, can_put_command, can_drop, can_take, can_put, can_finish, can_ask, is_booted, is_out, last_turn, job_plan, has_cast_left, has_no_cast_left}
 use Rattle.cable_model.specs.History.{Rules, World, start, run, happen, happened, is_possible, at_number, at_home, home_of, new_id, row_id, next_cast, offered, committed, finish, deliver, turn_note, hashes_of, trim_count, boot}
-use Rattle.cable_model.specs.Legal.{Legal, LegalStep, LegalEntry, LegalTable, stored_plans}
+use Rattle.cable_model.specs.Legal.{Legal, LegalStep, stored_plans}
 use Rattle.cable_model.specs.Restrictions.{LegalRestrictions}
 use Rattle.cable_model.proofs.Stored.{stored-works}
+use Rattle.cable_model.proofs.Answering.{always-answered}
+use Rattle.cable_model.proofs.TableLegal.{legal-table}
 use Rattle.cable_model.proofs.JobsStay.{keeps_job, job-plan-stays, new-number, unopened-user, userless-seat, plan_at}
 
 -- the commits made for a job are at most as many as its plan's casts
@@ -26,7 +29,6 @@ Within puts plan = (p : Plan) → plan ≡ Some p → length puts ≤ length p.c
 -- what keeps the journals legal
 pub record Lawful (r : Rules) (w : World) : Type 0 where
   pub nodes_are : (n : ℕ) → Legal (w.nodes n)
-  pub table_is : LegalTable r.hash r.page w.table
   -- no turn was read before it was asked
   pub unread : (n t : ℕ) → last_turn (w.nodes n) < t → read_of n t w.table ≡ None
   -- the turn that is out is read from where the node's next turn begins
@@ -80,7 +82,6 @@ module _ (r : Rules) (w : World) (n : ℕ) (e : Step) (puts : ℕ → List (Opti
   enters =
       record {
         nodes_are = λ m. enters-legal m (m == n) refl;
-        table_is = l.table_is;
         unread = λ m t g. enters-unread m t (m == n) refl g;
         lowers = λ m o note q. enters-lower m (m == n) refl o note q;
         puts_are = λ c m q. enters-puts c m q (m == n) refl;
@@ -169,13 +170,12 @@ module _ (r : Rules) (w : World) (l : Lawful r w) where
   -- ---- an entry of the table
 
   -- one that is no Read
-  no_read : (t : TableStep) → LegalEntry r.hash r.page t w.table → ((n u : ℕ) → read_of n u (t ∷ w.table) ≡ read_of n u w.table) → (puts : ℕ → List (Option RowId)) (failing : Bool)
+  no_read : (t : TableStep) → ((n u : ℕ) → read_of n u (t ∷ w.table) ≡ read_of n u w.table) → (puts : ℕ → List (Option RowId)) (failing : Bool)
       → ((c n : ℕ) → w.home c ≡ Some n → Within (puts c) (job_plan r.callbacks c (w.nodes n)))
       → Lawful r (record { table = t ∷ w.table; nodes = w.nodes; home = w.home; puts = puts; failing = failing })
-  no_read t h same puts failing within =
+  no_read t same puts failing within =
       record {
         nodes_are = l.nodes_are;
-        table_is = (h, l.table_is);
         unread = λ n u g. same n u ∙ l.unread n u g;
         lowers = λ n o note q. l.lowers n o note (sym (same n (last_turn (w.nodes n))) ∙ q);
         puts_are = within;
@@ -185,16 +185,10 @@ module _ (r : Rules) (w : World) (l : Lawful r w) where
   lower-of-note n true = refl
   lower-of-note n false = refl
 
-  note-legal : (n : ℕ) (f : Bool)
-      → LegalEntry r.hash r.page (TableStep.Read n (last_turn (w.nodes n)) (cond f (missed_note (lower (w.nodes n))) (note_of r.hash r.page (lower (w.nodes n)) (hashes_of r.hash (w.nodes n)) w.table)) (hashes_of r.hash (w.nodes n))) w.table
-  note-legal n true = inl refl
-  note-legal n false = inr refl
-
   reads : (n : ℕ) → Lawful r (record { table = TableStep.Read n (last_turn (w.nodes n)) (turn_note r w n) (hashes_of r.hash (w.nodes n)) ∷ w.table; nodes = w.nodes; home = w.home; puts = w.puts; failing = false })
   reads n =
       record {
         nodes_are = l.nodes_are;
-        table_is = (note-legal n w.failing, l.table_is);
         unread = λ m t g. later m t g (n == m) refl (last_turn (w.nodes n) == t) refl;
         lowers = λ m o note q. low m o note (n == m) refl (last_turn (w.nodes n) == last_turn (w.nodes m)) refl q;
         puts_are = l.puts_are;
@@ -243,10 +237,10 @@ both false b h = absurd (cc (h))
 other-number : (c d : ℕ) → (d == c) ≡ false → not (c == d) ≡ true
 other-number c d h = let t : (c == d) ≡ false = grind (arith, nat_tests) in rw t refl
 
-module _ (r : Rules) (w : World) (l : Lawful r w) where
+module _ (r : Rules) (a : AlwaysAnswer r.callbacks) (w : World) (l : Lawful r w) where
   boots : (n : ℕ) → is_booted (w.nodes n) ≡ false → Lawful r (boot w n)
   boots n h =
-      let t = no_read r w l (TableStep.Boot n (last_id w.table)) refl (λ m u. refl) w.puts w.failing l.puts_are in
+      let t = no_read r w l (TableStep.Boot n (last_id w.table)) (λ m u. refl) w.puts w.failing l.puts_are in
       let none : w.nodes n ≡ [] = empty (w.nodes n) h in
       enters r (record { table = TableStep.Boot n (last_id w.table) ∷ w.table; nodes = w.nodes; home = w.home; puts = w.puts; failing = w.failing }) n (Step.Boot (last_id w.table)) w.puts w.home t
       (record {
@@ -296,20 +290,16 @@ module _ (r : Rules) (w : World) (l : Lawful r w) where
   finishes n c q (Some plan) o h =
       let most = l.puts_are c n q plan o in
       let least : length plan.casts ≤ length (w.puts c) = unless (ltb (length (w.puts c)) (length plan.casts)) refl h in
-      emptied r w l n c (Step.Finish c (w.puts c) plan) ((r.callbacks, o), omega arith) refl (λ d b. other-number c d b) q
+      emptied r w l n c (Step.Finish c (w.puts c) plan) (record { callbacks = r.callbacks; planned = o; answered = λ user p u j. always-answered r.callbacks a user (task_of (seat c (w.nodes n)).conn p) }, omega arith) refl (λ d b. other-number c d b) q
     where
       unless : (b : Bool) → ltb (length (w.puts c)) (length plan.casts) ≡ b → not b ≡ true → length plan.casts ≤ length (w.puts c)
       unless true b g = absurd (cc (g))
       unless false b g = grind (arith, nat_tests)
 
-  commit-legal : (conn : Option ℕ) (offer : Offer) (f : Bool) → LegalEntry r.hash r.page (TableStep.Commit conn offer (cond f None (Some (suc (last_id w.table))))) w.table
-  commit-legal conn offer true = tt
-  commit-legal conn offer false = refl
-
   puts-one : (c at : ℕ) → (n : ℕ) → w.home c ≡ Some n → has_cast_left (w.puts c) (job_plan r.callbacks c (w.nodes n)) ≡ true → (o : Option Cast) → Lawful r (committed w c at o)
   puts-one c at n q h None = l
   puts-one c at n q h (Some cast) =
-      no_read r w l (TableStep.Commit (Some c) (offered cast at) (new_id w)) (commit-legal (Some c) (offered cast at) w.failing) (λ m u. refl)
+      no_read r w l (TableStep.Commit (Some c) (offered cast at) (new_id w)) (λ m u. refl)
       (at_number c (w.puts c ++ row_id (new_id w) ∷ []) w.puts) false (λ d m g. within d m g (d == c) refl)
     where
       more : (o : Option Plan) → job_plan r.callbacks c (w.nodes n) ≡ o → has_cast_left (w.puts c) o ≡ true → (p : Plan) → o ≡ Some p → length (w.puts c) < length p.casts
@@ -353,10 +343,6 @@ module _ (r : Rules) (w : World) (l : Lawful r w) where
         others = λ c m g d. (g, refl);
       })
 
-  trim-legal : (now retention batch : ℕ) (f : Bool) → LegalEntry r.hash r.page (TableStep.Trim now retention batch (cond f None (Some (length (trimmed now retention batch w.table))))) w.table
-  trim-legal now retention batch true = tt
-  trim-legal now retention batch false = refl
-
   pub happened-lawful : (e : Event) → is_possible r w e ≡ true → Lawful r (happened r w e)
   happened-lawful (event.Boot node) h = boots node.0 (negated (is_booted (w.nodes node.0)) h)
     where
@@ -383,28 +369,28 @@ module _ (r : Rules) (w : World) (l : Lawful r w) where
       let a = found-home w conn.0 (can_finish r.callbacks conn.0 (w.puts conn.0)) h in
       finishes (home_of w conn.0) conn.0 a.home_is (job_plan r.callbacks conn.0 (w.nodes (home_of w conn.0))) refl a.passes
   happened-lawful (event.Cast at channel payload) h =
-      no_read r w l (TableStep.Commit None (record { channel = channel; payload = payload; at = at.0 }) (new_id w)) (commit-legal None (record { channel = channel; payload = payload; at = at.0 }) w.failing) (λ m u. refl) w.puts false l.puts_are
+      no_read r w l (TableStep.Commit None (record { channel = channel; payload = payload; at = at.0 }) (new_id w)) (λ m u. refl) w.puts false l.puts_are
   happened-lawful (event.Trim now retention batch) h =
-      no_read r w l (TableStep.Trim now.0 retention.0 batch (trim_count now.0 retention.0 batch w)) (trim-legal now.0 retention.0 batch w.failing) (λ m u. refl) w.puts false l.puts_are
+      no_read r w l (TableStep.Trim now.0 retention.0 batch (trim_count now.0 retention.0 batch w)) (λ m u. refl) w.puts false l.puts_are
   happened-lawful (event.Ask node) h = asks node.0 h
   happened-lawful (event.Read node) h = reads r w l node.0
   happened-lawful (event.Deliver node) h = delivers node.0 (is_out (w.nodes node.0)) refl (read_of node.0 (last_turn (w.nodes node.0)) w.table) refl
   happened-lawful (event.Beat node now) h = plain r w l node.0 (Step.Beat now.0) h refl (λ d. refl)
-  happened-lawful event.Fault h = record { nodes_are = l.nodes_are; table_is = l.table_is; unread = l.unread; lowers = l.lowers; puts_are = l.puts_are }
+  happened-lawful event.Fault h = record { nodes_are = l.nodes_are; unread = l.unread; lowers = l.lowers; puts_are = l.puts_are }
 
-pub happen-lawful : (r : Rules) (w : World) (e : Event) → Lawful r w → Lawful r (happen r w e)
-happen-lawful r w e l = go (is_possible r w e) refl
+pub happen-lawful : (r : Rules) → AlwaysAnswer r.callbacks → (w : World) (e : Event) → Lawful r w → Lawful r (happen r w e)
+happen-lawful r a w e l = go (is_possible r w e) refl
   where
     go : (b : Bool) → is_possible r w e ≡ b → Lawful r (cond b (happened r w e) w)
-    go true b = happened-lawful r w l e b
+    go true b = happened-lawful r a w l e b
     go false b = l
 
-pub run-lawful : (r : Rules) (w : World) (es : List Event) → Lawful r w → Lawful r (run r w es)
-run-lawful r w [] l = l
-run-lawful r w (e ∷ es) l = run-lawful r (happen r w e) es (happen-lawful r w e l)
+pub run-lawful : (r : Rules) → AlwaysAnswer r.callbacks → (w : World) (es : List Event) → Lawful r w → Lawful r (run r w es)
+run-lawful r a w [] l = l
+run-lawful r a w (e ∷ es) l = run-lawful r a (happen r w e) es (happen-lawful r a w e l)
 
 pub start-lawful : (r : Rules) → Lawful r start
-start-lawful r = record { nodes_are = λ n. tt; table_is = tt; unread = λ n t g. refl; lowers = λ n o. absurd (cc (o)); puts_are = λ c n q. absurd (cc (q)) }
+start-lawful r = record { nodes_are = λ n. tt; unread = λ n t g. refl; lowers = λ n o. absurd (cc (o)); puts_are = λ c n q. absurd (cc (q)) }
 
-pub legal_restrictions : (r : Rules) (events : List Event) → LegalRestrictions r events
-legal_restrictions r events = let l = run-lawful r start events (start-lawful r) in record { nodes = l.nodes_are; table = l.table_is }
+pub legal_restrictions : (r : Rules) → AlwaysAnswer r.callbacks → (events : List Event) → LegalRestrictions r events
+legal_restrictions r a events = record { nodes = (run-lawful r a start events (start-lawful r)).nodes_are; table = legal-table r events }

@@ -142,8 +142,8 @@ unfolding AgreeUpto
 stored-works c [] h = tt
 stored-works c (Step.Finish d puts plan ∷ past) h = (here, worked-agrees c (stored_plans c past) (stored_plans c (Step.Finish d puts plan ∷ past)) past (agree (d == c) refl) (stored-works c past h.1))
   where
-    found : HasPlan h.0.0.0 d past plan
-    found = has-plan h.0.0.0 d past plan h.0.0.1
+    found : HasPlan h.0.0.callbacks d past plan
+    found = has-plan h.0.0.callbacks d past plan h.0.0.planned
 
     agree : (t : Bool) → (d == c) ≡ t → AgreeUpto (seat c past).done (stored_plans c past) (stored_plans c (Step.Finish d puts plan ∷ past))
     agree true t place l k read =
@@ -159,8 +159,8 @@ stored-works c (Step.Finish d puts plan ∷ past) h = (here, worked-agrees c (st
       λ p j.
           let j' : job (seat c past) ≡ Some found.taken = subst (λ x. job (seat x past) ≡ Some found.taken) e found.job_is in
           let same : found.taken ≡ p = cc (j', j) in
-          let change : plan.change ≡ change_of (planner h.0.0.0 found.user) (seat c past).taken (seat d past).conn found.taken = ap (λ x. x.change) found.plan_is ∙ plan-change h.0.0.0 found.user (seat c past).taken (seat d past).conn found.taken in
-          gives p (change ∙ ap (change_of (planner h.0.0.0 found.user) (seat c past).taken (seat d past).conn) same),
+          let change : plan.change ≡ change_of (planner h.0.0.callbacks found.user) (seat c past).taken (seat d past).conn found.taken = ap (λ x. x.change) found.plan_is ∙ plan-change h.0.0.callbacks found.user (seat c past).taken (seat d past).conn found.taken in
+          gives p (change ∙ ap (change_of (planner h.0.0.callbacks found.user) (seat c past).taken (seat d past).conn) same),
     )
       where
         t : (d == c) ≡ true
@@ -169,7 +169,7 @@ stored-works c (Step.Finish d puts plan ∷ past) h = (here, worked-agrees c (st
         s : ((seat c past).taken == (seat c past).taken) ≡ true
         s = grind (arith, nat_tests)
 
-        gives : (p : Piece) → plan.change ≡ change_of (planner h.0.0.0 found.user) (seat c past).taken (seat d past).conn p
+        gives : (p : Piece) → plan.change ≡ change_of (planner h.0.0.callbacks found.user) (seat c past).taken (seat d past).conn p
             → plan.change ≡ change_of (stored_plans c (Step.Finish d puts plan ∷ past)) (seat c past).taken (seat c past).conn p
         gives (piece.Cmd read) g = rw (t, s) refl
         gives (piece.Row sub want row) g = g

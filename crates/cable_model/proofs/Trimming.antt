@@ -12,7 +12,7 @@ use Rattle.cable_model.specs.Journal.{table_journal}
 use Rattle.cable_model.specs.Legal.{LegalTable}
 use Rattle.cable_model.specs.Trims.{TakesOld, TakenOld, TrimsOld, HistoryTrims}
 use Rattle.cable_model.proofs.Delivered.{id_of}
-use Rattle.cable_model.proofs.Restricting.{legal_restrictions}
+use Rattle.cable_model.proofs.TableLegal.{legal-table}
 
 -- ---- being among rows
 
@@ -174,4 +174,4 @@ trims_old hash page table l =
     stays row e false b = b
 
 pub history_trims : (r : Rules) (events : List Event) → HistoryTrims r events
-history_trims r events = let l = legal_restrictions r events in trims_old r.hash r.page (table_journal r events) l.table
+history_trims r events = trims_old r.hash r.page (table_journal r events) (legal-table r events)

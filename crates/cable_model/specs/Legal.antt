@@ -1,22 +1,30 @@
 -- When a stored journal is legal: each entry is one that the rules allow at its place, for some answers of the callbacks.
-use Rattle.std.specs.Prelude.{ℕ, suc, ◌≡◌, ◌==◌, ⊤, true, cond, ◌&&◌, ◌⊎◌, List, [], ◌∷◌, None, Some, length, ℤ}
+use Rattle.std.specs.Prelude.{ℕ, suc, ◌≡◌, ◌==◌, ⊤, true, false, cond, ◌&&◌, ◌⊎◌, List, [], ◌∷◌, None, Some, length, ℤ}
+use Rattle.cable_model.specs.declared.pieces.Piece.{Piece}
 use Rattle.cable_model.specs.declared.plans.Plan.{Plan}
 use Rattle.cable_model.specs.declared.plans.Change.TheVariants as change
 use Rattle.cable_model.specs.Steps.{Step}
 use Rattle.cable_model.specs.Connection.{Planner}
-use Rattle.cable_model.specs.Wants.{lower}
+use Rattle.cable_model.specs.Wants.{lower, user_of}
 use Rattle.cable_model.specs.Pieces.{seat}
-use Rattle.cable_model.specs.Plans.{Callbacks}
-use Rattle.cable_model.specs.Possible.{can_open, can_put_command, can_drop, can_stop, can_take, can_ask, can_beat, is_out, last_turn, job_plan}
+use Rattle.cable_model.specs.Plans.{Callbacks, IsAnswered, task_of}
+use Rattle.cable_model.specs.Possible.{can_open, can_put_command, can_drop, can_stop, can_take, can_ask, can_beat, is_out, last_turn, was_asked, job_plan}
+use Rattle.cable_model.specs.Window.{job}
 use Rattle.cable_model.specs.Table.{TableStep, last_id, trimmed, note_of, missed_note}
 
--- the plan is what the rules make of the job that is out, for some answers of the callbacks
-abbrev pub IsPlanned : ℕ → Plan → List Step → Type 0
-IsPlanned c plan past = (r : Callbacks) × (job_plan r c past ≡ Some plan)
+-- the callbacks answered all that the plan of the job that is out is made of
+abbrev pub IsJobAnswered : Callbacks → ℕ → List Step → Type 0
+IsJobAnswered r c past = (user : List ℕ) (p : Piece) → user_of c past ≡ Some user → job (seat c past) ≡ Some p → IsAnswered r user (task_of (seat c past).conn p)
+
+-- the plan is what the rules make of the job that is out, for some answers of the callbacks. Want of memory is none
+pub record IsPlanned (c : ℕ) (plan : Plan) (past : List Step) : Type 0 where
+  pub callbacks : Callbacks
+  pub planned : job_plan callbacks c past ≡ Some plan
+  pub answered : IsJobAnswered callbacks c past
 
 -- the turn has the next number. The first one of a log that was cut or reset may have any
 abbrev pub FollowsTurn : ℕ → List Step → Type 0
-FollowsTurn turn past = (last_turn past ≡ 0) ⊎ (turn ≡ suc (last_turn past))
+FollowsTurn turn past = (was_asked past ≡ false) ⊎ (turn ≡ suc (last_turn past))
 
 -- each Finish has one put for each cast of its plan, and each Deliver the number and the lower of the turn that is out
 abbrev pub LegalStep : Step → List Step → Type 0

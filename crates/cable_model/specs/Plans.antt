@@ -1,6 +1,7 @@
 -- How a piece is worked: first what it needs from its connection (its task), then what the rules make of that with the answers of the
 -- callbacks (its plan). Within a plan the notes of streams come first, then those of casts, then those of faults of `unsubscribed`.
-use Rattle.std.specs.Prelude.{ℕ, true, cond, not, ◌&&◌, List, [], ◌∷◌, ◌++◌, map, length, filter, filter_map, flat_map, find, Option, None, Some, is_none, option_to_list, Result, Ok, Err, bytes_eq, ◌==◌, ltb, leb}
+use Rattle.std.specs.Prelude.{◌≡◌, ⊤, ℕ, Bool, true, false, cond, not, ◌&&◌, ◌||◌, List, [], ◌∷◌, ◌++◌, map, length, filter, filter_map, flat_map, find, Option, None, Some, is_none, option_to_list, Result, Ok, Err, bytes_eq, ◌==◌, ltb, leb}
+use Rattle.std.specs.List.{AllByRecursion}
 use Rattle.cable_base.specs.Names.{is_reserved}
 use Rattle.cable_json.specs.Texts.{confirm_text, reject_text, message_text, disconnect_text}
 use Rattle.cable_json.specs.declared.reasons.Reason.TheVariants as reason
@@ -237,6 +238,35 @@ plan_for c user (task.Close how identifiers) = close_plan how (map (c.unsubscrib
 -- the plan of a piece of this user on a connection
 abbrev pub plan_of : Callbacks → (user : List ℕ) → Conn → Piece → Plan
 plan_of c user k p = plan_for c user (task_of k p)
+
+-- ---- answers
+
+-- the callback answered. Want of memory is no answer of a callback
+abbrev pub IsAnswer : Result Answer CallFault → Type 0
+IsAnswer answer = ¬ (answer ≡ Err call_fault.OutOfMemory)
+
+-- these callbacks always answer
+pub record AlwaysAnswer (c : Callbacks) : Type 0 where
+  pub subscribed : (user identifier : List ℕ) → IsAnswer (c.subscribed user identifier)
+  pub unsubscribed : (user identifier : List ℕ) → IsAnswer (c.unsubscribed user identifier)
+  pub perform : (user identifier payload : List ℕ) → IsAnswer (c.perform user identifier payload)
+
+-- the subscription is rejected, by the answer itself or for a bad stream
+abbrev pub is_rejection : Result Answer CallFault → Bool
+is_rejection (Err fault) = false
+is_rejection (Ok answer) = answer.rejected || ltb 0 (length (stream_notes [] answer.streams))
+
+-- the callbacks answered all that the plan of a task is made of. `unsubscribed` is asked for a new subscription only where that is rejected
+abbrev pub IsAnswered : Callbacks → (user : List ℕ) → Task → Type 0
+IsAnswered c user task.Nothing = ⊤
+IsAnswered c user (task.Note why) = ⊤
+IsAnswered c user (task.Subscribe identifier) =
+    IsAnswer (c.subscribed user identifier) × (is_rejection (c.subscribed user identifier) ≡ true → IsAnswer (c.unsubscribed user identifier))
+IsAnswered c user (task.Unsubscribe identifier) = IsAnswer (c.unsubscribed user identifier)
+IsAnswered c user (task.Perform identifier payload streams) = IsAnswer (c.perform user identifier payload)
+IsAnswered c user (task.Row identifier payload) = ⊤
+IsAnswered c user (task.Confirm identifier) = ⊤
+IsAnswered c user (task.Close how identifiers) = AllByRecursion (λ (identifier : List ℕ). IsAnswer (c.unsubscribed user identifier)) identifiers
 
 -- the planner of a history: what the callbacks make of a command
 abbrev pub planner : Callbacks → (user : List ℕ) → Planner

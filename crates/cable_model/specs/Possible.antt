@@ -119,6 +119,12 @@ last_turn [] = 0
 last_turn (Ask turn ∷ past) = turn
 last_turn (_ ∷ past) = last_turn past
 
+-- a turn was asked
+abbrev pub was_asked : List Step → Bool
+was_asked [] = false
+was_asked (Ask turn ∷ past) = true
+was_asked (_ ∷ past) = was_asked past
+
 -- ---- the tests
 
 abbrev pub can_open : ℕ → List Step → Bool

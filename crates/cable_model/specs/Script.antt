@@ -1,5 +1,5 @@
 -- The session script: which bytes are one, and the events that its lines stand for.
-use Rattle.std.specs.Prelude.{◌≡◌, ◌==◌, ℕ, ◌+◌, ◌-◌, ◌^◌, ◌<◌, ◌≤◌, Bool, false, List, [], ◌∷◌, ◌++◌, length, codes, decimal, replicate, IsSome, IsUtf8, Result, Ok}
+use Rattle.std.specs.Prelude.{◌≡◌, ◌==◌, ℕ, ◌<◌, ◌≤◌, false, List, [], ◌∷◌, ◌++◌, length, codes, decimal, replicate, IsSome, IsUtf8, Ok}
 use Rattle.std.specs.List.{list_any}
 use Rattle.serde_json.specs.Read.{read}
 use Rattle.cable_base.specs.declared.numbers.ConnNo.{ConnNo}

@@ -13,7 +13,8 @@ use Rattle.cable_script.specs.declared.faults.LineFault.TheVariants as fault
 use Rattle.cable_script.specs.declared.verb_names.VerbName.{VerbName}
 use Rattle.cable_script.specs.declared.verb_names.VerbName.TheVariants as name
 use Rattle.cable_script.specs.Words.{first_word, after_word}
-use Rattle.cable_script.specs.Reading.{spelling, all_verbs, verb_named, verb_with, verb_alone, verb_behind, verb_in, text_of, verb_of}
+use Rattle.cable_script.specs.VerbTable.{spelling, all_verbs}
+use Rattle.cable_script.specs.Reading.{verb_named, verb_with, verb_alone, verb_behind, verb_in, text_of, verb_of}
 use Rattle.cable_script.proofs.WordsRead.{word_is, word_found, word_alone}
 use Rattle.cable_script.proofs.NumbersRead.{step_is, step_of, same_Ok, given_is, given_of}
 use Rattle.cable_script.proofs.LinesRead.{boot_is, open_is, text_is, drop_is, stop_is, take_is, put_is, finish_is, work_is, cast_is, trim_is, ask_is, read_is, deliver_is, poll_is, beat_is, boot_found, open_found, text_found, drop_found, stop_found, take_found, put_found, finish_found, work_found, cast_found, trim_found, ask_found, read_found, deliver_found, poll_found, beat_found}
@@ -28,10 +29,10 @@ find_passes p (y ∷ ys) x e = by_test (p y) refl (find_passes p ys x) e
     by_test true t ih e = subst (λ z. p z ≡ true) (same_Some y x e) t
     by_test false t ih e = ih e
 
-named_is : (word : List ℕ) (v : VerbName) → verb_named word ≡ Some v → word ≡ spelling v
+pub named_is : (word : List ℕ) (v : VerbName) → verb_named word ≡ Some v → word ≡ spelling v
 named_is word v e = (bytes_eq-Decides word (spelling v)).0 (find_passes (λ k. bytes_eq word (spelling k)) all_verbs v e)
 
-named_found : (v : VerbName) → verb_named (spelling v) ≡ Some v
+pub named_found : (v : VerbName) → verb_named (spelling v) ≡ Some v
 named_found name.Boot = refl
 named_found name.Open = refl
 named_found name.In = refl
@@ -50,7 +51,7 @@ named_found name.Poll = refl
 named_found name.Beat = refl
 named_found name.Fault = refl
 
-no_blank : (v : VerbName) → list_any (λ b. b == 32) (spelling v) ≡ false
+pub no_blank : (v : VerbName) → list_any (λ b. b == 32) (spelling v) ≡ false
 no_blank name.Boot = refl
 no_blank name.Open = refl
 no_blank name.In = refl

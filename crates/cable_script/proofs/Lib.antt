@@ -1,7 +1,9 @@
 pub mod Cuts
-pub mod FaultsOfTexts
+pub mod FirstFaults
 pub mod GrammarRead
+pub mod LineWords
 pub mod LinesRead
+pub mod VerbFaults
 pub mod NumbersRead
 pub mod Spellings
 pub mod WordsRead

@@ -1,2 +1,4 @@
+pub mod LineFaults
 pub mod Reading
+pub mod VerbTable
 pub mod Words

@@ -1,5 +1,5 @@
 -- The verb that a line stands for, or the first rule that it breaks. That the lines read are exactly those of the grammar is the law `lines_are_read`.
-use Rattle.std.specs.Prelude.{◌≡◌, ⊤, ℕ, ◌&&◌, nat_le, List, [], ◌∷◌, length, codes, Option, Some, None, Result, Ok, Err, if◌then◌else◌}
+use Rattle.std.specs.Prelude.{◌≡◌, ⊤, ℕ, ◌&&◌, nat_le, List, length, Option, Some, None, Result, Ok, Err, if◌then◌else◌}
 use Rattle.std.specs.List.{find}
 use Rattle.std.specs.Str.{is_utf8, bytes_eq}
 use Rattle.serde_json.specs.Read.{read}
@@ -7,6 +7,7 @@ use Rattle.cable_base.specs.declared.numbers.ConnNo.{ConnNo}
 use Rattle.cable_base.specs.declared.numbers.NodeNo.{NodeNo}
 use Rattle.cable_base.specs.declared.numbers.Millis.{Millis}
 use Rattle.cable_base.specs.Squeeze.{squeezed}
+use Rattle.cable_model.specs.Limits.{most_name, most_payload}
 use Rattle.cable_model.specs.declared.events.Event.TheVariants as event
 use Rattle.cable_model.specs.declared.verbs.Verb.{Verb}
 use Rattle.cable_model.specs.declared.verbs.Verb.TheVariants as verb
@@ -14,6 +15,7 @@ use Rattle.cable_script.specs.declared.faults.LineFault.{LineFault}
 use Rattle.cable_script.specs.declared.faults.LineFault.TheVariants as fault
 use Rattle.cable_script.specs.declared.verb_names.VerbName.{VerbName}
 use Rattle.cable_script.specs.declared.verb_names.VerbName.TheVariants as name
+use Rattle.cable_script.specs.VerbTable.{spelling, all_verbs}
 use Rattle.cable_script.specs.Words.{first_word, after_word, next_word, one_word, two_words, three_words, two_words_and_rest, number_in}
 
 -- what is there, or else this fault
@@ -127,7 +129,7 @@ payload_in json = do
 -- name and payload are within the limits
 unfoldable pub cast_of : Millis → List ℕ → List ℕ → Result Verb LineFault
 cast_of at channel payload =
-    if nat_le (length channel) 1024 && nat_le (length payload) 1048576 then Ok (verb.One (event.Cast at channel payload)) else Err fault.TooLarge
+    if nat_le (length channel) most_name && nat_le (length payload) most_payload then Ok (verb.One (event.Cast at channel payload)) else Err fault.TooLarge
 
 -- the JSON is all that follows the blank behind the name
 unfoldable pub cast_in : List ℕ → Result Verb LineFault
@@ -173,31 +175,6 @@ beat_in text = do
   Ok (verb.One (event.Beat node now))
 
 -- ---- the table of verbs
-
--- how each verb is written
-abbrev pub spelling : VerbName → List ℕ
-spelling name.Boot = codes "boot"
-spelling name.Open = codes "open"
-spelling name.In = codes "in"
-spelling name.Drop = codes "drop"
-spelling name.Stop = codes "stop"
-spelling name.Take = codes "take"
-spelling name.Put = codes "put"
-spelling name.Finish = codes "finish"
-spelling name.Work = codes "work"
-spelling name.Cast = codes "cast"
-spelling name.Trim = codes "trim"
-spelling name.Ask = codes "ask"
-spelling name.Read = codes "read"
-spelling name.Deliver = codes "deliver"
-spelling name.Poll = codes "poll"
-spelling name.Beat = codes "beat"
-spelling name.Fault = codes "fault"
-
-abbrev pub all_verbs : List VerbName
-all_verbs =
-    name.Boot ∷ name.Open ∷ name.In ∷ name.Drop ∷ name.Stop ∷ name.Take ∷ name.Put ∷ name.Finish ∷ name.Work
-    ∷ name.Cast ∷ name.Trim ∷ name.Ask ∷ name.Read ∷ name.Deliver ∷ name.Poll ∷ name.Beat ∷ name.Fault ∷ []
 
 -- the verb that is written so
 abbrev pub verb_named : List ℕ → Option VerbName

@@ -1,7 +1,9 @@
 ghost use Rattle.std.specs.Prelude.{◌≡◌, ◌↔◌, ℕ, List, IsUtf8, Ok, Err};
 ghost use Rattle.cable_model.specs.declared.verbs.Verb.{Verb};
 ghost use Rattle.cable_model.specs.Script.{IsLine, Spells};
+ghost use Rattle.cable_script.specs.declared.faults.LineFault.{LineFault};
 ghost use Rattle.cable_script.specs.declared.faults.LineFault.TheVariants as fault;
+ghost use Rattle.cable_script.specs.LineFaults.{BreaksFirst};
 ghost use Rattle.cable_script.specs.Reading.{verb_of};
 
 /// The lines that are read as a verb are exactly the UTF-8 lines that spell it in the grammar.
@@ -14,4 +16,9 @@ pub fn lines_are_read()
 
     // Want of memory is no property of a line.
     ensures memory { (line : List ℕ) → ¬ (verb_of line ≡ Err fault.OutOfMemory) }
+{}
+
+/// A line has a fault exactly where it breaks the rule of that fault, and none of the rules before it.
+pub fn lines_have_their_first_fault()
+    ensures { (line : List ℕ) (f : LineFault) → (verb_of line ≡ Err f) ↔ BreaksFirst f line }
 {}

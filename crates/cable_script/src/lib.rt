@@ -14,7 +14,7 @@ mod words;
 
 pub use expanding::expand;
 pub use faults::LineFault;
-pub use laws::lines_are_read;
+pub use laws::{lines_are_read, lines_have_their_first_fault};
 pub use reading::{read_line, utf8_text};
 pub use words::cut_word;
 

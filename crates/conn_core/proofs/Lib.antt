@@ -1,5 +1,6 @@
 pub mod Known
 pub mod Broadcasts
+pub mod Answered
 pub mod Wanting
 pub mod Mapped
 pub mod OneSub

@@ -1,6 +1,6 @@
 ghost use Rattle.std.specs.Prelude.{◌≡◌, ◌++◌, [], ◌∷◌, IfOk, OnOk, MatchResult};
 ghost use Rattle.channel_book.specs.declared.answers.CallFault.TheVariants as call_fault;
-ghost use Rattle.cable_model.specs.Plans.{cast_note, kept_casts, cast_notes, fault_notes, casts_left, notes_left};
+ghost use Rattle.cable_model.specs.Plans.{IsAnswer, cast_note, kept_casts, cast_notes, fault_notes, casts_left, notes_left};
 ghost use Rattle.conn_core.specs.Payloads.{AreCommittable};
 
 use crate::limits::{MOST_NAME, MOST_PAYLOAD, is_reserved};
@@ -85,6 +85,7 @@ impl Casts {
         ensures notes { OnOk result (self.new.notes ≡ self.old.notes ++ cast_notes (casts_left (C.unsubscribed_of callbacks.now user.now identifier.now))) }
         ensures faults { OnOk result (self.new.faults ≡ self.old.faults ++ notes_left (C.unsubscribed_of callbacks.now user.now identifier.now)) }
         ensures rows { OnOk result (AreCommittable (kept_casts (casts_left (C.unsubscribed_of callbacks.now user.now identifier.now)))) }
+        ensures answered { OnOk result (IsAnswer (C.unsubscribed_of callbacks.now user.now identifier.now)) }
     {
         match callbacks.unsubscribed(alloc, user, identifier) {
             Ok(answer) => self.add(answer.casts),

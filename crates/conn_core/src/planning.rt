@@ -1,8 +1,9 @@
-ghost use Rattle.std.specs.Prelude.{◌≡◌, ◌++◌, [], ◌∷◌, map, All, IfOk, OnOk};
+ghost use Rattle.std.specs.Prelude.{◌≡◌, ◌++◌, List, ℕ, [], ◌∷◌, true, map, All, IfOk, OnOk};
+ghost use Rattle.std.specs.List.{AllByRecursion};
 ghost use Rattle.cable_base.specs.Squeeze.{IsSqueezedJson};
 ghost use Rattle.channel_book.specs.Calls.{SpeaksJson};
 ghost use Rattle.channel_book.specs.declared.answers.Cast.{Cast};
-ghost use Rattle.cable_model.specs.Plans.{noted, said_only, kept_casts, cast_notes, casts_left, notes_left, rejection, confirmation, acceptance, subscribe_plan, unsubscribe_plan, perform_plan, close_plan, last_words, new_streams, plan_for};
+ghost use Rattle.cable_model.specs.Plans.{IsAnswer, IsAnswered, is_rejection, noted, said_only, kept_casts, cast_notes, casts_left, notes_left, rejection, confirmation, acceptance, subscribe_plan, unsubscribe_plan, perform_plan, close_plan, last_words, new_streams, plan_for};
 ghost use Rattle.conn_core.specs.Payloads.{AreCommittable, CarriesJson};
 
 use crate::casting::{Casts, fault_note};
@@ -74,6 +75,7 @@ fn casting_both<C: Callbacks>(
     ensures casts { IfOk result (λ parts. parts.0 ≡ kept_casts (casts ++ casts_left (C.unsubscribed_of callbacks.now user.now identifier.now))) }
     ensures rows { IfOk result (λ parts. AreCommittable parts.0) }
     ensures notes { IfOk result (λ parts. parts.1 ≡ why ++ cast_notes (casts ++ casts_left (C.unsubscribed_of callbacks.now user.now identifier.now)) ++ notes_left (C.unsubscribed_of callbacks.now user.now identifier.now)) }
+    ensures answered { IfOk result (λ _. IsAnswer (C.unsubscribed_of callbacks.now user.now identifier.now)) }
 {
     let mut walked = Casts::behind(alloc, why);
     walked.add(casts)?;
@@ -93,6 +95,7 @@ fn rejecting<C: Callbacks>(
     requires { SpeaksJson answer }
     ensures plan { IfOk result (λ p. p ≡ rejection why identifier.now answer (C.unsubscribed_of callbacks.now user.now identifier.now)) }
     ensures casts { IfOk result (λ p. AreCommittable p.casts) }
+    ensures answered { IfOk result (λ _. IsAnswer (C.unsubscribed_of callbacks.now user.now identifier.now)) }
 {
     let Answer {
         says: sayings,
@@ -152,6 +155,7 @@ fn subscribing<C: Callbacks>(
 ) -> Result<Plan, OutOfMemory>
     ensures plan { IfOk result (λ p. p ≡ subscribe_plan identifier.now (C.subscribed_of callbacks.now user.now identifier.now) (C.unsubscribed_of callbacks.now user.now identifier.now)) }
     ensures casts { IfOk result (λ p. AreCommittable p.casts) }
+    ensures answered { IfOk result (λ _. IsAnswer (C.subscribed_of callbacks.now user.now identifier.now) × (is_rejection (C.subscribed_of callbacks.now user.now identifier.now) ≡ true → IsAnswer (C.unsubscribed_of callbacks.now user.now identifier.now))) }
 {
     let answer = match callbacks.subscribed(alloc, user, identifier) {
         Ok(answer) => answer,
@@ -179,6 +183,7 @@ fn unsubscribing<C: Callbacks>(
 ) -> Result<Plan, OutOfMemory>
     ensures plan { IfOk result (λ p. p ≡ unsubscribe_plan identifier.now (C.unsubscribed_of callbacks.now user.now identifier.now)) }
     ensures casts { IfOk result (λ p. AreCommittable p.casts) }
+    ensures answered { IfOk result (λ _. IsAnswer (C.unsubscribed_of callbacks.now user.now identifier.now)) }
 {
     let mut walked = Casts::behind(alloc, Listed::empty(alloc));
     walked.leave(alloc, identifier, user, callbacks)?;
@@ -237,6 +242,7 @@ fn performing<C: Callbacks>(
 ) -> Result<Plan, OutOfMemory>
     ensures plan { IfOk result (λ p. p ≡ perform_plan identifier.now streams.now (C.performed_of callbacks.now user.now identifier.now payload.now)) }
     ensures casts { IfOk result (λ p. AreCommittable p.casts) }
+    ensures answered { IfOk result (λ _. IsAnswer (C.performed_of callbacks.now user.now identifier.now payload.now)) }
 {
     match callbacks.perform(alloc, user, identifier, payload) {
         Ok(answer) => performed(alloc, identifier, streams, answer),
@@ -268,6 +274,7 @@ fn closing<C: Callbacks>(
 ) -> Result<Plan, OutOfMemory>
     ensures plan { IfOk result (λ p. p ≡ close_plan how (map (C.unsubscribed_of callbacks.now user.now) identifiers.now)) }
     ensures casts { IfOk result (λ p. AreCommittable p.casts) }
+    ensures answered { IfOk result (λ _. AllByRecursion (λ (identifier : List ℕ). IsAnswer (C.unsubscribed_of callbacks.now user.now identifier)) identifiers.now) }
 {
     let mut walked = Casts::behind(alloc, Listed::empty(alloc));
     for identifier in identifiers {
@@ -283,7 +290,8 @@ fn closing<C: Callbacks>(
 }
 
 /// What the rules make of a task, with the answers of the callbacks: the texts for the client, the notes, the broadcasts to commit, and
-/// what changes on the connection. It runs without the connection, so that callbacks hold up nobody else.
+/// what changes on the connection. It runs without the connection, so that callbacks hold up nobody else. Where a plan comes, the
+/// callbacks answered all that it is made of: want of memory of a callback is want of memory here.
 pub fn plan<C: Callbacks>(
     alloc: Global,
     task: &Task,
@@ -293,6 +301,7 @@ pub fn plan<C: Callbacks>(
     requires { CarriesJson task.now }
     ensures plan { IfOk result (λ p. p ≡ plan_for (record { identify = C.user_of callbacks.now; subscribed = C.subscribed_of callbacks.now; unsubscribed = C.unsubscribed_of callbacks.now; perform = C.performed_of callbacks.now }) user.now task.now) }
     ensures casts { IfOk result (λ p. AreCommittable p.casts) }
+    ensures answered { IfOk result (λ _. IsAnswered (record { identify = C.user_of callbacks.now; subscribed = C.subscribed_of callbacks.now; unsubscribed = C.unsubscribed_of callbacks.now; perform = C.performed_of callbacks.now }) user.now task.now) }
 {
     match task {
         Task::Nothing => Ok(nothing(alloc)),

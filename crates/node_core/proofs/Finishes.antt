@@ -14,9 +14,9 @@ use Rattle.cable_model.specs.declared.plans.Plan.{Plan}
 use Rattle.cable_model.specs.declared.plans.Task.{Task}
 use Rattle.cable_model.specs.declared.plans.Task.TheVariants as task
 use Rattle.cable_model.specs.Connection.{Conn, Sub}
-use Rattle.cable_model.specs.Legal.{Legal}
+use Rattle.cable_model.specs.Legal.{IsJobAnswered, Legal}
 use Rattle.cable_model.specs.Pieces.{Placed, Seat, seat}
-use Rattle.cable_model.specs.Plans.{Callbacks, plan_for, task_of}
+use Rattle.cable_model.specs.Plans.{Callbacks, IsAnswered, plan_for, task_of}
 use Rattle.cable_model.specs.Possible.{has_job, is_opened, job_plan, planned}
 use Rattle.cable_model.specs.Steps.{Step}
 use Rattle.cable_model.specs.Transcript.{queued, conn_line, plan_lines}
@@ -160,6 +160,33 @@ plan-any r user other (task.Perform identifier payload streams) = refl
 plan-any r user other (task.Row identifier payload) = refl
 plan-any r user other (task.Confirm identifier) = refl
 plan-any r user other (task.Close how identifiers) = refl
+
+answered-any : (r : Callbacks) (user other : List ℕ) (t : Task) → IsAnswered r user t → IsAnswered (ignoring r user) other t
+unfolding ignoring
+answered-any r user other task.Nothing a = tt
+answered-any r user other (task.Note why) a = tt
+answered-any r user other (task.Subscribe identifier) a = a
+answered-any r user other (task.Unsubscribe identifier) a = a
+answered-any r user other (task.Perform identifier payload streams) a = a
+answered-any r user other (task.Row identifier payload) a = tt
+answered-any r user other (task.Confirm identifier) a = tt
+answered-any r user other (task.Close how identifiers) a = a
+
+-- the task of the piece that is out
+task-there : (k : Conn) (t : Task) (b : Bool) (o : Option Piece) (p : Piece) → o ≡ Some p → cond b (option_map (task_of k) o) None ≡ Some t → t ≡ task_of k p
+task-there k t true (Some q) p is e =
+    let same : q ≡ p = cc is in
+    let f : Some (task_of k q) ≡ Some t = e in
+    let taken : task_of k q ≡ t = cc f in
+    sym taken ∙ ap (task_of k) same
+task-there k t true None p is e = absurd (cc is)
+task-there k t false o p is e = absurd (let f : None ≡ Some t = e in cc f)
+
+-- the callbacks answered what the plan of a work is made of, whoever the user is
+pub answered-out : (c place : ℕ) (t : Task) (plan : Plan) (puts : List (Option RowId)) (capacity : ℕ) (past : List Step) (w : IsWork t plan puts capacity) → IsOutOn c place t past
+    → IsJobAnswered (ignoring w.callbacks w.user) c past
+answered-out c place t plan puts capacity past w i user p opened out =
+    subst (IsAnswered (ignoring w.callbacks w.user) user) (task-there (seat c past).conn t (has_job (seat c past)) (job (seat c past)) p out i.task_is) (answered-any w.callbacks w.user user t w.answered)
 
 plan-of-task : (r : Callbacks) (user : List ℕ) (k : Conn) (t : Task) (b : Bool) (u : Option (List ℕ)) (o : Option Piece) → u ≡ Some user
     → cond b (option_map (task_of k) o) None ≡ Some t → cond b (planned r u k o) None ≡ Some (plan_for r user t)
@@ -316,12 +343,12 @@ wanted-is c place past s x h is =
 
 module _ {past : List Step} {v : Numbers} {outs : OutboxesState} {k : CursorState} {holds : HoldMap} {ws : List Wanted} {taken : ℕ} where
   pub finishes-as : (r : Callbacks) (conn : ConnNo) (place : ℕ) (puts : List (Option RowId)) (plan : Plan) (v1 v2 : Numbers) (s : Seated) (roomy new : OutboxesState) → Stands past v outs k holds ws taken
-      → place ≡ (seat conn.0 past).taken → job_plan r conn.0 past ≡ Some plan → length puts ≡ length plan.casts
+      → place ≡ (seat conn.0 past).taken → job_plan r conn.0 past ≡ Some plan → IsJobAnswered r conn.0 past → length puts ≡ length plan.casts
       → Moves conn.0 (Lives (Prepares plan.change)) v v1 → Ready conn.0 past plan v1 s → Moves conn.0 (Finished plan.change) v1 v2
       → Roomier outs roomy → Queues (outs_of conn plan) roomy new
       → Stands (Step.Finish conn.0 puts plan ∷ past) v2 new k (released conn.0 plan.change s.user s.subs holds) (ws ++ wanted_with conn.0 place s.made (bare s.subs).subs plan.change) taken
-  finishes-as r conn place puts plan v1 v2 s roomy new h is out done prepared at finished room said =
-      let legal : Legal (Step.Finish conn.0 puts plan ∷ past) = (((r, out), done), h.legal) in
+  finishes-as r conn place puts plan v1 v2 s roomy new h is out answered done prepared at finished room said =
+      let legal : Legal (Step.Finish conn.0 puts plan ∷ past) = ((record { callbacks = r; planned = out; answered = answered }, done), h.legal) in
       record {
         booted = refl;
         legal = legal;

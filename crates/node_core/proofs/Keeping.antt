@@ -1,5 +1,5 @@
 -- A log that grows by an entry is the journal with this entry laid on it.
-use Rattle.std.proofs.Common.{◌≡◌, List, [], ◌∷◌, ◌++◌, length, Result, Ok, Err, IsOk, IfOk, OnOk, refl, arith}
+use Rattle.std.proofs.Common.{◌≡◌, ◌+◌, List, [], ◌∷◌, ◌++◌, length, Result, Ok, Err, IsOk, IfOk, OnOk, refl, arith}
 use Rattle.cable_model.specs.declared.journals.Beside.{Beside}
 use Rattle.cable_model.specs.declared.journals.Entry.{Entry}
 use Rattle.cable_model.specs.Journal.{laid, step_of}
@@ -11,6 +11,12 @@ laid-push past [] [] e b even = refl
 laid-push past [] (y ∷ bs) e b even = absurd cc
 laid-push past (x ∷ es) [] e b even = absurd cc
 laid-push past (x ∷ es) (y ∷ bs) e b even = laid-push (step_of x y ∷ past) es bs e b (omega (arith, even))
+
+-- a log with as many things beside it lays an entry for each of its own
+pub laid-length : (past : List Step) (log : List Entry) (beside : List Beside) → length log ≡ length beside → length (laid past log beside) ≡ length past + length log
+laid-length past [] bs even = omega arith
+laid-length past (x ∷ es) [] even = absurd cc
+laid-length past (x ∷ es) (y ∷ bs) even = omega (arith, laid-length (step_of x y ∷ past) es bs (omega (arith, even)))
 
 -- what a call promises where it succeeds, where it does
 pub on-ok : {A E : Type 0} (P : Type 0) (r : Result A E) → IsOk r → OnOk r P → P

@@ -11,7 +11,7 @@ use Rattle.poll_turn.specs.Turns.{CaughtState, TurnState}
 use Rattle.node_core.specs.Arriving.{RefusesText, text_fault}
 use Rattle.node_core.specs.Forgetting.{may_forget}
 use Rattle.node_core.specs.Jobs.{Fits, IsJob, JobState, WorkState}
-use Rattle.node_core.specs.Nodes.{GoesOn, NodeState, ReadsSame, TakesNone, is_forgotten, line_on, past, taken_out}
+use Rattle.node_core.specs.Nodes.{GoesOn, HasReady, NodeState, ReadsSame, TakesNone, is_forgotten, line_on, past, taken_out}
 use Rattle.node_core.specs.Opening.{RefusesOpen, open_fault}
 use Rattle.node_core.specs.Turned.{IsNextTurn, is_expected}
 use Rattle.node_core.specs.declared.arriving.ArriveFault.{ArriveFault}
@@ -42,9 +42,10 @@ pub record Leaves (old : NodeState) (conn : ConnNo) (result : Result Bool OutOfM
   pub goes : GoesOn old new
   pub err : OnErr result (ReadsSame old new)
 
--- a piece of the connection that is ready longest is taken, or none is ready
+-- a piece of the connection that is ready longest is taken, or none is ready. Those of which a piece can be taken are ready, and no other
 pub record TakesNext (old : NodeState) (result : Result (Option JobState) OutOfMemory) (new : NodeState) : Type 0 where
   pub number : new.no ≡ old.no
+  pub ready : HasReady old
   pub none : IfOk result (λ j. j ≡ None → ((c : ℕ) → can_take c (past old) ≡ false) × ReadsSame old new)
   pub ok : IfOk result (λ o. (j : JobState) → o ≡ Some j → (slice_get old.ready 0 ≡ Some j.conn) × (past new ≡ Step.Take j.conn.0 ∷ past old) × IsJob j new)
   pub goes : GoesOn old new
@@ -96,6 +97,7 @@ pub record Forgets (old : NodeState) (conn : ConnNo) (new : NodeState) : Type 0 
 pub record Asks (old : NodeState) (result : Result (Option TurnState) OutOfMemory) (new : NodeState) : Type 0 where
   pub number : new.no ≡ old.no
   pub answer : IfOk result (λ t. is_some t ≡ not (is_out (past old)))
+  pub none : IfOk result (λ t. t ≡ None → ReadsSame old new)
   pub ok : IfOk result (λ t. past new ≡ cond (is_some t) (Step.Ask (suc (last_turn (past old))) ∷ past old) (past old))
   pub turn : IfOk result (λ o. (t : TurnState) → o ≡ Some t → IsNextTurn t old)
   pub goes : GoesOn old new

@@ -6,7 +6,7 @@ use Rattle.cable_base.specs.declared.numbers.RowId.{RowId}
 use Rattle.cable_model.specs.declared.plans.Plan.{Plan}
 use Rattle.cable_model.specs.declared.plans.Task.{Task}
 use Rattle.cable_model.specs.Pieces.{seat}
-use Rattle.cable_model.specs.Plans.{Callbacks, task_of, plan_for}
+use Rattle.cable_model.specs.Plans.{Callbacks, IsAnswered, task_of, plan_for}
 use Rattle.cable_model.specs.Possible.{has_job}
 use Rattle.cable_model.specs.Steps.{Step}
 use Rattle.cable_model.specs.Wants.{user_of}
@@ -74,12 +74,13 @@ pub record Fits (w : WorkState) (n : NodeState) : Type 0 where
   pub out : IsWorkOut w n
   pub done : length w.puts ≡ length w.plan.casts
 
--- the plan is what the rules make of the task, for some user and some answers of the callbacks. Each of its casts can be committed. Each noted commit is one of a cast of it, and there is
--- room to note the others
+-- the plan is what the rules make of the task, for some user and some callbacks that answered all that it is made of. Each of its casts
+-- can be committed. Each noted commit is one of a cast of it, and there is room to note the others
 pub record IsWork (t : Task) (plan : Plan) (puts : List (Option RowId)) (capacity : ℕ) : Type 0 where
   pub callbacks : Callbacks
   pub user : List ℕ
   pub planned : plan ≡ plan_for callbacks user t
+  pub answered : IsAnswered callbacks user t
   pub casts : AreCommittable plan.casts
   pub noted : length puts ≤ length plan.casts
   pub room : length plan.casts ≤ capacity

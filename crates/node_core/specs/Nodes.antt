@@ -20,7 +20,7 @@ use Rattle.node_seats.specs.declared.turning.Wanted.{Wanted}
 use Rattle.node_seats.specs.Numbers.{Numbers, may_take_at}
 use Rattle.node_seats.specs.AreSeats.{AreSeats}
 use Rattle.poll_turn.specs.Turns.{CursorState, AreMessages}
-use Rattle.run_queue.specs.ReadyLists.{has_number}
+use Rattle.run_queue.specs.ReadyLists.{AreOnce, has_number}
 use Rattle.subscriber_map.specs.HoldMaps.{HoldMap}
 use Rattle.turn_wants.specs.Wished.{AreWished}
 use Rattle.node_core.specs.Journals.{JournalState}
@@ -89,6 +89,11 @@ pub record Stands (past : List Step) (seats : Numbers) (outs : OutboxesState) (c
 -- the ready ones are exactly those of which a piece may be taken
 abbrev pub AreReady : Numbers → List ConnNo → Type 0
 AreReady v ready = (c : ConnNo) → has_number c ready ≡ may_take_at c.0 v
+
+-- .. as the journal says: those of which a piece can be taken, and no other, each once
+pub record HasReady (n : NodeState) : Type 0 where
+  pub each : (c : ConnNo) → has_number c n.ready ≡ can_take c.0 (past n)
+  pub once : AreOnce n.ready
 
 -- nothing was taken out
 abbrev pub TakesNone : NodeState → NodeState → Type 0

@@ -1,11 +1,11 @@
 ghost use Rattle.std.specs.Prelude.{◌≡◌, ◌≤◌, ℕ, [], None, Some, false, cond, is_some, length, slice_get, vec_capacity, OnErr, IfOk, IfErr, ◌∷◌};
-ghost use Rattle.cable_model.specs.Plans.{plan_for};
+ghost use Rattle.cable_model.specs.Plans.{IsAnswered, plan_for};
 ghost use Rattle.cable_model.specs.Possible.{can_take};
 ghost use Rattle.cable_model.specs.Steps.{Step};
 ghost use Rattle.conn_core.specs.Payloads.{AreCommittable, CarriesJson};
 ghost use Rattle.node_seats.specs.Numbers.{seat_at};
 ghost use Rattle.node_core.specs.Jobs.{IsJob, JobState, next_job_in, place_in, work_of};
-ghost use Rattle.node_core.specs.Nodes.{GoesOn, past, ReadsSame};
+ghost use Rattle.node_core.specs.Nodes.{GoesOn, HasReady, past, ReadsSame};
 
 use crate::nodes::Node;
 use crate::working::Work;
@@ -125,6 +125,7 @@ fn make_plan<C: Callbacks>(
     requires { CarriesJson task.now }
     ensures plan { IfOk result (λ p. p.plan ≡ plan_for (record { identify = C.user_of callbacks.now; subscribed = C.subscribed_of callbacks.now; unsubscribed = C.unsubscribed_of callbacks.now; perform = C.performed_of callbacks.now }) user.now task.now) }
     ensures casts { IfOk result (λ p. AreCommittable p.plan.casts) }
+    ensures answered { IfOk result (λ _. IsAnswered (record { identify = C.user_of callbacks.now; subscribed = C.subscribed_of callbacks.now; unsubscribed = C.unsubscribed_of callbacks.now; perform = C.performed_of callbacks.now }) user.now task.now) }
     ensures puts { IfOk result (λ p. p.puts.items ≡ []) }
     ensures room { IfOk result (λ p. length p.plan.casts ≤ vec_capacity p.puts) }
 {
@@ -167,6 +168,7 @@ impl Node {
     pub fn take(&mut self, conn: ConnNo) -> Result<Option<Job>, OutOfMemory>
         ensures no { self.new.no ≡ self.old.no }
         ensures answer { IfOk result (λ j. is_some j ≡ can_take conn.0 (past self.old)) }
+        ensures none { IfOk result (λ j. j ≡ None → ReadsSame self.old self.new) }
         ensures ok { IfOk result (λ j. past self.new ≡ cond (is_some j) (Step.Take conn.0 ∷ past self.old) (past self.old)) }
         ensures job { IfOk result (λ o. (j : JobState) → o ≡ Some j → (j.conn ≡ conn) × IsJob j self.new) }
         ensures goes { GoesOn self.old self.new }
@@ -190,10 +192,11 @@ impl Node {
         }))
     }
 
-    /// Takes the piece of the connection that is ready longest. It is `None` exactly where of no connection a piece can be taken, and then
-    /// nothing changes.
+    /// Takes the piece of the connection that is ready longest. Those of which a piece can be taken are ready, and no other. It is `None`
+    /// exactly where none is, and then nothing changes.
     pub fn take_next(&mut self) -> Result<Option<Job>, OutOfMemory>
         ensures no { self.new.no ≡ self.old.no }
+        ensures ready { HasReady self.old }
         ensures none { IfOk result (λ j. j ≡ None → ((c : ℕ) → can_take c (past self.old) ≡ false) × ReadsSame self.old self.new) }
         ensures ok { IfOk result (λ o. (j : JobState) → o ≡ Some j → (slice_get self.old.ready 0 ≡ Some j.conn) × (past self.new ≡ Step.Take j.conn.0 ∷ past self.old) × IsJob j self.new) }
         ensures goes { GoesOn self.old self.new }

@@ -1,4 +1,4 @@
-ghost use Rattle.std.specs.Prelude.{◌≡◌, ◌≤◌, ◌<◌, ◌+◌, ◌-◌, ◌∷◌, [], OnOk, IfOk};
+ghost use Rattle.std.specs.Prelude.{◌≡◌, ◌≤◌, ◌<◌, ◌+◌, ◌-◌, ◌∷◌, [], length, OnOk, IfOk};
 ghost use Rattle.cable_model.specs.Journal.{past_of, step_of};
 ghost use Rattle.cable_model.specs.Steps.{Step};
 
@@ -62,9 +62,11 @@ impl Journal {
         self.beside.push_reserved(beside);
     }
 
-    /// The log, in order. It takes no memory.
+    /// The log, in order. Beside each of its entries something is kept, so that each is one of the journal. It takes no memory.
     pub fn entries(&self) -> &[Entry]
-        ensures { result.now ≡ self.now.kept.log }
+        ensures log { result.now ≡ self.now.kept.log }
+        ensures paired { length self.now.kept.log ≡ length self.now.kept.beside }
+        ensures whole { length self.now.kept.log ≡ length (past_of self.now.kept) }
     {
         self.log.entries()
     }

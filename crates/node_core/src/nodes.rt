@@ -1,8 +1,9 @@
 ghost use Rattle.std.specs.Prelude.{◌≡◌, ◌≤◌, ◌+◌, ◌∷◌, [], ℕ, Some, true, false, ◌==◌, IfOk, MatchOption, length, slice_get};
+ghost use Rattle.cable_model.specs.Legal.{Legal};
 ghost use Rattle.cable_model.specs.Possible.{can_take, is_over};
 ghost use Rattle.cable_model.specs.Steps.{Step};
 ghost use Rattle.cable_model.specs.Transcript.{queued};
-ghost use Rattle.node_core.specs.Nodes.{is_forgotten, line_on, past, taken_out};
+ghost use Rattle.node_core.specs.Nodes.{HasReady, is_forgotten, line_on, past, taken_out};
 
 use crate::journals::Journal;
 use cable_base::{ConnNo, NodeNo, OutOfMemory, RowId};
@@ -66,16 +67,21 @@ impl Node {
         })
     }
 
-    /// Its log: an entry for each call that changed it, in order. It takes no memory.
+    /// Its log: an entry for each call that changed it, in order. With what is kept beside each entry it tells the node's journal, which is
+    /// legal. It takes no memory.
     pub fn log(&self) -> &[Entry]
-        ensures { result.now ≡ self.now.kept.log }
+        ensures log { result.now ≡ self.now.kept.log }
+        ensures legal { Legal (past self.now) }
+        ensures paired { length self.now.kept.log ≡ length self.now.kept.beside }
+        ensures whole { length self.now.kept.log ≡ length (past self.now) }
     {
         self.journal.entries()
     }
 
-    /// How many entries its log has. It takes no memory.
+    /// How many entries its log has, which are as many as its journal has. It takes no memory.
     pub fn log_len(&self) -> u64
-        ensures { result ≡ length self.now.kept.log }
+        ensures log { result ≡ length self.now.kept.log }
+        ensures whole { result ≡ length (past self.now) }
     {
         self.journal.entries().len() as u64
     }
@@ -87,10 +93,11 @@ impl Node {
         self.seats.is_over(conn)
     }
 
-    /// The connection that is ready longest: `take_next` takes its piece. It is `None` exactly where of no connection a piece can be taken.
-    /// It takes no memory.
+    /// The connection that is ready longest: `take_next` takes its piece. Those of which a piece can be taken are ready, and no other. It is
+    /// `None` exactly where none is. It takes no memory.
     pub fn next_ready(&self) -> Option<ConnNo>
         ensures first { result ≡ slice_get self.now.ready 0 }
+        ensures ready { HasReady self.now }
         ensures answer { MatchOption result ((c : ℕ) → can_take c (past self.now) ≡ false) (λ c. can_take c.0 (past self.now) ≡ true) }
     {
         self.ready.front()

@@ -1,4 +1,4 @@
-ghost use Rattle.std.specs.Prelude.{◌≡◌, ◌≤◌, ◌∷◌, ◌++◌, [], suc, true, false, cond, length, not, map, Some, is_some, IfOk, IfErr, OnOk, OnErr, IsOk};
+ghost use Rattle.std.specs.Prelude.{◌≡◌, ◌≤◌, ◌∷◌, ◌++◌, [], suc, true, false, cond, length, not, map, None, Some, is_some, IfOk, IfErr, OnOk, OnErr, IsOk};
 ghost use Rattle.cable_base.specs.Hash.{channel_hash_of};
 ghost use Rattle.cable_model.specs.Possible.{is_out, last_turn};
 ghost use Rattle.cable_model.specs.Steps.{Step};
@@ -111,6 +111,7 @@ impl Node {
     pub fn ask(&mut self) -> Result<Option<Turn>, OutOfMemory>
         ensures no { self.new.no ≡ self.old.no }
         ensures answer { IfOk result (λ t. is_some t ≡ not (is_out (past self.old))) }
+        ensures none { IfOk result (λ t. t ≡ None → ReadsSame self.old self.new) }
         ensures ok { IfOk result (λ t. past self.new ≡ cond (is_some t) (Step.Ask (suc (last_turn (past self.old))) ∷ past self.old) (past self.old)) }
         ensures turn { IfOk result (λ o. (t : TurnState) → o ≡ Some t → IsNextTurn t self.old) }
         ensures goes { GoesOn self.old self.new }

@@ -105,8 +105,8 @@ wants-numbered c (Step.Open d token user ∷ past) l = go (d == c) refl (wants-n
     go false b ih = rw b ih
 wants-numbered c (Step.Finish d puts plan ∷ past) l = go (d == c) refl (wants-numbered c past l.1)
   where
-    found : HasPlan l.0.0.0 d past plan
-    found = has-plan l.0.0.0 d past plan l.0.0.1
+    found : HasPlan l.0.0.callbacks d past plan
+    found = has-plan l.0.0.callbacks d past plan l.0.0.planned
 
     go : (b : Bool) → (d == c) ≡ b → Numbered 0 (wants_of c past) → Numbered 0 (wants_of c (Step.Finish d puts plan ∷ past))
     go false b ih = rw b ih
@@ -321,8 +321,8 @@ shut c (Step.Take d ∷ past) l = go (d == c) refl (shut c past l.1)
         rw b (λ t. absurd (cc (t, unshut)))
 shut c (Step.Finish d puts plan ∷ past) l = go (d == c) refl (shut c past l.1)
   where
-    found : HasPlan l.0.0.0 d past plan
-    found = has-plan l.0.0.0 d past plan l.0.0.1
+    found : HasPlan l.0.0.callbacks d past plan
+    found = has-plan l.0.0.callbacks d past plan l.0.0.planned
 
     go : (b : Bool) → (d == c) ≡ b → Shut (seat c past) → Shut (seat c (Step.Finish d puts plan ∷ past))
     go false b ih = rw b ih

@@ -128,8 +128,8 @@ plan-suits r user k piece.Restart = tt
 
 pub finish-suits : (c : ℕ) (puts : List _) (plan : Plan) (past : List Step) → Legal (Step.Finish c puts plan ∷ past) → Suits plan.change (seat c past).conn
 finish-suits c puts plan past l =
-    let found : HasPlan l.0.0.0 c past plan = has-plan l.0.0.0 c past plan l.0.0.1 in
-    subst (λ (p : Plan). Suits p.change (seat c past).conn) (sym found.plan_is) (plan-suits l.0.0.0 found.user (seat c past).conn found.taken)
+    let found : HasPlan l.0.0.callbacks c past plan = has-plan l.0.0.callbacks c past plan l.0.0.planned in
+    subst (λ (p : Plan). Suits p.change (seat c past).conn) (sym found.plan_is) (plan-suits l.0.0.callbacks found.user (seat c past).conn found.taken)
 
 -- ---- what stands
 

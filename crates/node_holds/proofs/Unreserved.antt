@@ -122,8 +122,8 @@ unreserved c (Step.Take d ∷ past) l =
     elim (d == c) as (λ b. ArePlain (cond b (with_job (seat c past)) (seat c past)).conn.subs) [ true ↦ ih | false ↦ ih ]
 unreserved c (Step.Finish d puts plan ∷ past) l =
     let ih = unreserved c past l.1 in
-    let found : HasPlan l.0.0.0 d past plan = has-plan l.0.0.0 d past plan l.0.0.1 in
-    let plain : WantsPlain plan.change = subst (λ (p : Plan). WantsPlain p.change) (sym found.plan_is) (plan-plain l.0.0.0 found.user (task_of (seat d past).conn found.taken)) in
+    let found : HasPlan l.0.0.callbacks d past plan = has-plan l.0.0.callbacks d past plan l.0.0.planned in
+    let plain : WantsPlain plan.change = subst (λ (p : Plan). WantsPlain p.change) (sym found.plan_is) (plan-plain l.0.0.callbacks found.user (task_of (seat d past).conn found.taken)) in
     elim (d == c) as (λ b. ArePlain (cond b (with_plan (seat c past) plan) (seat c past)).conn.subs) [ true ↦ changed-plain plan.change (seat c past).taken (seat c past).conn plain ih | false ↦ ih ]
 unreserved c (Step.Ask turn ∷ past) l = unreserved c past l.1
 unreserved c (Step.Deliver turn note ∷ past) l =

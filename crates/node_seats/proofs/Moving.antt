@@ -129,15 +129,3 @@ pub tidy-finished : (change : Change) (c count : ℕ) (m n : BTreeMap ℕ Opened
     → Finished change kept became → weight became ≡ 1 → (CanRestart kept → CanRestart became) → IsTidy m.entries count → IsTidy n.entries count
 tidy-finished change c count m n kept became at written finished live keeps is =
     tidy c count m n kept became at written (live ∙ sym (finished-weight change kept became finished)) keeps is
-
-seat-or : Seated → Option Opened → Seated
-seat-or seat None = seat
-seat-or seat (Some (opened.Live other)) = other
-seat-or seat (Some opened.Over) = seat
-
--- what was found is what the value says
-pub seat-is : (c : ℕ) (v : Numbers) (is : NodeSeats) (kept : Opened) (seat s : Seated) → (record { entries = v }) ≡ is → Some kept ≡ opened_at c v → kept ≡ opened.Live seat
-    → opened_at c is.entries ≡ Some (opened.Live s) → seat ≡ s
-unfolding seat-or
-seat-is c v is kept seat s view found live at =
-    ap (seat-or seat) (sym (ap (λ (o : Opened). Some o) live) ∙ found ∙ ap (λ (x : NodeSeats). opened_at c x.entries) view ∙ at)

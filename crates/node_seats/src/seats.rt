@@ -1,9 +1,7 @@
 ghost use Rattle.std.specs.Prelude.{◌≡◌, ◌<◌, ◌≤◌, ◌+◌, ◌-◌, ◌^◌, [], not, is_some, IsOk, IfOk, OnOk, OnErr, Some, None, true, false, ltb, option_map};
 ghost use Rattle.cable_model.specs.Limits.{most_connections};
-ghost use Rattle.cable_model.specs.Pieces.{Placed, is_closing};
-ghost use Rattle.cable_model.specs.Plans.{task_of};
+ghost use Rattle.cable_model.specs.Pieces.{is_closing};
 ghost use Rattle.cable_model.specs.Wants.{makes};
-ghost use Rattle.conn_core.specs.Bare.{bare};
 ghost use Rattle.conn_core.specs.Subscriptions.{placed_in};
 ghost use Rattle.node_seats.specs.Turned.{next_task_at};
 ghost use Rattle.conn_seat.specs.Seats.{Seated, Becomes, CanFinish, vacant, with_piece, with_taken, may_take_now};
@@ -163,20 +161,6 @@ impl Seats {
             unreachable!()
         };
         opened::take(kept)
-    }
-
-    /// What the job of a live connection needs from it, so that the callbacks run without it.
-    pub fn task(&self, conn: ConnNo) -> Result<Task, OutOfMemory>
-        requires { (s : Seated) × (opened_at conn.0 self.now.entries ≡ Some (opened.Live s)) × (is_some s.job ≡ true) }
-        ensures { (s : Seated) (p : Placed) → opened_at conn.0 self.now.entries ≡ Some (opened.Live s) → s.job ≡ Some p → IfOk result (λ t. t ≡ task_of (bare s.subs) p.piece) }
-    {
-        let Some(kept) = self.by_number.get(&conn.0) else {
-            unreachable!()
-        };
-        let Opened::Live(seat) = kept else {
-            unreachable!()
-        };
-        seat.task()
     }
 
     /// What the piece that `take` would take needs from its connection, so that the callbacks run without it. It is `None` where the connection

@@ -13,6 +13,7 @@ use Rattle.cable_model.specs.Wants.{at_ask, lower, user_of}
 use Rattle.cable_model.specs.Possible.{opened, is_opened, is_live, is_out, last_turn}
 use Rattle.cable_model.specs.History.{Rules, World, start, run, at_home, home_of, logged, is_possible, happened, caught, held_names}
 use Rattle.cable_model.specs.HistoryLaws.{planner_of}
+use Rattle.cable_model.specs.Plans.{AlwaysAnswer}
 use Rattle.cable_model.specs.Promise.{AllWorked}
 use Rattle.cable_model.specs.Transcript.{lines_of, queued}
 use Rattle.cable_model.proofs.JobsStay.{keeps_job, unopened-user}
@@ -75,8 +76,8 @@ comes r h h' w now e f may is k =
 pub sound-now : (r : Rules) (h : Held) (w : World) → FollowsWorld r h w → Sound r w
 sound-now r h w f = subst (Sound r) (sym f.ran) (run-sound r start f.events (start-sound r))
 
-pub legal-now : (r : Rules) (h : Held) (w : World) → FollowsWorld r h w → Legal (w.nodes 1)
-legal-now r h w f = subst (λ (x : World). Legal (x.nodes 1)) (sym f.ran) ((legal_restrictions r f.events).nodes 1)
+pub legal-now : (r : Rules) → AlwaysAnswer r.callbacks → (h : Held) (w : World) → FollowsWorld r h w → Legal (w.nodes 1)
+legal-now r a h w f = subst (λ (x : World). Legal (x.nodes 1)) (sym f.ran) ((legal_restrictions r a f.events).nodes 1)
 
 pub worked-now : (r : Rules) (h : Held) (w : World) → FollowsWorld r h w → (c : ℕ) → AllWorked (planner_of r.callbacks (user_of c (w.nodes 1))) c (w.nodes 1)
 worked-now r h w f c = ((sound-now r h w f).nodes 1).worked c (planner_of r.callbacks (user_of c (w.nodes 1))) (plans-for r.callbacks (user_of c (w.nodes 1)))

@@ -17,6 +17,7 @@ use Rattle.cable_model.specs.Journal.{Kept, past_of}
 use Rattle.cable_model.specs.Legal.{Legal}
 use Rattle.cable_model.specs.Steps.{Step}
 use Rattle.cable_model.specs.Table.{TableStep, last_id}
+use Rattle.cable_model.specs.Plans.{AlwaysAnswer}
 use Rattle.cable_model.specs.Possible.{opened, is_opened, is_receiving, receiving, inserted, is_booted, is_out}
 use Rattle.cable_model.specs.History.{Rules, World, logged, happened}
 use Rattle.cable_model.specs.Transcript.{queued, ping_line}
@@ -128,12 +129,12 @@ listed c conns past is =
     (λ k e. let same : k ≡ c = grind (arith, nat_tests) in ap (λ x. is_receiving x past) same) (opened past)
     ∙ receiving-opened c past
 
-pub receiving-distinct : (r : Rules) (h : Held) → FollowsSome r h → (n : NodeState) (conns : List ConnNo) → h.node ≡ Some n → map (λ (d : ConnNo). d.0) conns ≡ receiving (past n)
+pub receiving-distinct : (r : Rules) → AlwaysAnswer r.callbacks → (h : Held) → FollowsSome r h → (n : NodeState) (conns : List ConnNo) → h.node ≡ Some n → map (λ (d : ConnNo). d.0) conns ≡ receiving (past n)
     → IsDistinct (eq_by_cmp nat_cmp) (map (λ (d : ConnNo). d.0) conns)
-receiving-distinct r h stands n conns at is =
+receiving-distinct r a h stands n conns at is =
     let w = stands.0 in
     let f = stands.1 in
-    subst (IsDistinct (eq_by_cmp nat_cmp)) (sym (is ∙ ap receiving (node-of r h w n f at).journal)) (distinct-filter (λ c. is_receiving c (w.nodes 1)) (opened (w.nodes 1)) (opened-distinct (w.nodes 1) (legal-now r h w f)))
+    subst (IsDistinct (eq_by_cmp nat_cmp)) (sym (is ∙ ap receiving (node-of r h w n f at).journal)) (distinct-filter (λ c. is_receiving c (w.nodes 1)) (opened (w.nodes 1)) (opened-distinct (w.nodes 1) (legal-now r a h w f)))
 
 -- the pings of the connections that receive
 pings : (now : ℕ) (m : NodeState) (conns : List ConnNo) → ((c : ℕ) → is_in c conns ≡ true → left_on m c ≡ ping_line now c ∷ [])

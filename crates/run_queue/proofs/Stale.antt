@@ -1,14 +1,14 @@
 -- Numbers come and go in a queue of stamped numbers.
-use Rattle.std.proofs.Common.{◌≡◌, ℕ, zero, suc, ◌+◌, ◌-◌, ◌^◌, ◌<◌, ◌≤◌, ◌==◌, ◌||◌, ◌&&◌, eqb, min, cond, not, Bool, true, false, List, [], ◌∷◌, ◌++◌, length, map, get_or, option_to_list, is_some, Option, Some, None, refl, sym, ap, subst, ◌∙◌, arith, append-nil}
-use Rattle.std.specs.List.{All, filter, list_any}
-use Rattle.std.proofs.lemmas.Bool.{cases_Bool, false≢true, eqb-true, ne_eqb, eq-eqb, or_left, or_right}
+use Rattle.std.proofs.Common.{◌≡◌, ℕ, ◌+◌, ◌<◌, ◌≤◌, ◌==◌, ◌||◌, cond, not, Bool, true, false, List, [], ◌∷◌, ◌++◌, length, map, get_or, option_to_list, is_some, Option, Some, None, refl, sym, ap, subst, ◌∙◌, arith}
+use Rattle.std.specs.List.{All, filter}
+use Rattle.std.proofs.lemmas.Bool.{false≢true, eqb-true, eq-eqb}
 use Rattle.std.proofs.lemmas.Bool.Decides.{nat_tests}
 use Rattle.std.proofs.lemmas.List.{map-append}
-use Rattle.std.proofs.lemmas.List.Elements.{filter-append, All-cons, All-head, All-tail, All-nil, All-push, All-filter, All-weaker}
+use Rattle.std.proofs.lemmas.List.Elements.{filter-append, All-head, All-tail, All-nil, All-push, All-filter}
 use Rattle.cable_base.specs.declared.numbers.ConnNo.{ConnNo}
 use Rattle.run_queue.specs.declared.ready_lists.Queued.{Queued}
-use Rattle.run_queue.specs.ReadyLists.{has_number}
-use Rattle.run_queue.specs.Queued.{stamp_in, is_stamp, lives, ready_in, spare_of, AreStamped, StartsLive, IsReady, Skips}
+use Rattle.run_queue.specs.ReadyLists.{has_number, AreOnce}
+use Rattle.run_queue.specs.Queued.{is_stamp, lives, ready_in, spare_of, AreStamped, StartsLive, IsReady, Skips}
 
 -- ---- stamps
 
@@ -264,6 +264,33 @@ ready_next q f g qs rest new next k e h s =
 
 pub next_once : (q : Queued) (f g : ConnNo → Option ℕ) (qs rest new : List Queued) (next : ℕ) → IsReady f qs next → qs ≡ q ∷ rest → Loses q.conn f g → Skips g rest new → has_number q.conn (ready_in g new) ≡ false
 next_once q f g qs rest new next k e h s = sym ((IsReady-next q f g qs rest new next k e h s).known q.conn) ∙ ap is_some (gone q f g h)
+
+-- ---- each number once
+
+-- a number that lives doesn't stand among those behind it
+once-behind : (q : Queued) (f : ConnNo → Option ℕ) (qs : List Queued) → lives f q ≡ true → All (λ x. q.stamp < x.stamp) qs → has_number q.conn (ready_in f qs) ≡ false
+once-behind q f [] l a = refl
+once-behind q f (x ∷ qs) l a = by-live (lives f x) refl (once-behind q f qs l (All-tail (λ (x : Queued). q.stamp < x.stamp) x qs a))
+  where
+    apart : (b : Bool) → (q.conn.0 == x.conn.0) ≡ b → lives f x ≡ true → (x.conn.0 == q.conn.0) ≡ false
+    apart true e live =
+        let stamp : f x.conn ≡ Some q.stamp = ap f (sym (same_number q.conn x.conn e)) ∙ is-stamp (f q.conn) q.stamp l in
+        let above : q.stamp < x.stamp = All-head (λ (x : Queued). q.stamp < x.stamp) x qs a in
+        let older : (q.stamp == x.stamp) ≡ false = grind (arith, nat_tests) in
+        absurd (false≢true (sym older ∙ (ap (λ (o : Option ℕ). is_stamp o x.stamp) (sym stamp) ∙ live)))
+    apart false e live = grind (arith, nat_tests)
+
+    by-live : (b : Bool) → lives f x ≡ b → has_number q.conn (ready_in f qs) ≡ false → has_number q.conn (map (λ q. q.conn) (cond b (x ∷ filter (lives f) qs) (filter (lives f) qs))) ≡ false
+    by-live true e r = rw (apart (q.conn.0 == x.conn.0) refl e) r
+    by-live false e r = r
+
+pub ready-once : (f : ConnNo → Option ℕ) (qs : List Queued) (next : ℕ) → AreStamped next qs → AreOnce (ready_in f qs)
+ready-once f [] next h = tt
+ready-once f (q ∷ qs) next h = by-live (lives f q) refl (ready-once f qs next h.2)
+  where
+    by-live : (b : Bool) → lives f q ≡ b → AreOnce (ready_in f qs) → AreOnce (map (λ q. q.conn) (cond b (q ∷ filter (lives f) qs) (filter (lives f) qs)))
+    by-live true e r = (once-behind q f qs e h.1, r)
+    by-live false e r = r
 
 -- ---- room
 

@@ -1,5 +1,5 @@
 -- The list of connections that have something to work.
-use Rattle.std.specs.Prelude.{◌≡◌, ◌≤◌, ◌==◌, ◌+◌, ℕ, not, cond, Bool, true, false, List, [], ◌∷◌, ◌++◌, filter, Option, None, Some}
+use Rattle.std.specs.Prelude.{◌≡◌, ◌≤◌, ◌==◌, ◌+◌, ℕ, not, cond, Bool, false, List, [], ◌∷◌, ◌++◌, filter}
 use Rattle.std.specs.List.{list_any}
 use Rattle.cable_base.specs.declared.numbers.ConnNo.{ConnNo}
 
@@ -10,6 +10,11 @@ pub record ReadyQueue : Type 0 where
 
 abbrev pub has_number : ConnNo → List ConnNo → Bool
 has_number conn ns = list_any (λ n. n.0 == conn.0) ns
+
+-- each number stands there once
+abbrev pub AreOnce : List ConnNo → Type 0
+AreOnce [] = Unit {0}
+AreOnce (n ∷ ns) = (has_number n ns ≡ false) × AreOnce ns
 
 -- nothing changes but that there may be more room
 pub record ReadyKeeps (old new : ReadyQueue) : Type 0 where

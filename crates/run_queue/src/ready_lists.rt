@@ -1,6 +1,6 @@
 ghost use Rattle.std.specs.Prelude.{◌≡◌, ◌+◌, ◌<◌, ◌≤◌, ◌∷◌, [], Bool, false, IsOk, IsTrue, MatchOption, OnErr, OnOk, filter, option_map, slice_get};
 ghost use Rattle.std.specs.VecDeque.{deque_len, deque_capacity};
-ghost use Rattle.run_queue.specs.ReadyLists.{ReadyKeeps, Puts, Nexts, DropsOut, has_number};
+ghost use Rattle.run_queue.specs.ReadyLists.{AreOnce, ReadyKeeps, Puts, Nexts, DropsOut, has_number};
 ghost use Rattle.run_queue.specs.Queued.{lives, ready_in, stamp_in, StartsLive, Skips};
 
 use cable_base::{ConnNo, OutOfMemory};
@@ -123,7 +123,8 @@ impl Ready {
 
     /// The number that `next` would take.
     pub fn front(&self) -> Option<ConnNo>
-        ensures { result ≡ slice_get self.now.waiting 0 }
+        ensures first { result ≡ slice_get self.now.waiting 0 }
+        ensures once { AreOnce self.now.waiting }
     {
         match self.queue.front() {
             Some(first) => Some(first.conn),

@@ -1,16 +1,22 @@
 -- The rows of a table follow its journal.
-use Rattle.std.proofs.Common.{ℕ, ◌+◌, ◌<◌, ◌≡◌, Bool, true, false, not, ◌&&◌, ◌||◌, List, [], ◌∷◌, ◌++◌, Option, Some, refl, arith, sym, ap, ◌∙◌, inl, inr, length, length-append, ℤ}
+use Rattle.std.proofs.Common.{ℕ, ◌+◌, ◌<◌, ◌≡◌, Bool, true, false, not, ◌&&◌, ◌||◌, List, [], ◌∷◌, ◌++◌, Option, Some, refl, arith, sym, ap, subst, ◌∙◌, inl, inr, length, length-append, ℤ}
+use Rattle.std.specs.Prelude.{IfSome, Ok, Err}
 use Rattle.std.specs.List.{filter}
 use Rattle.std.proofs.lemmas.List.Elements.{filter-append}
 use Rattle.cable_base.specs.Hash.{channel_hash_of}
+use Rattle.cable_base.specs.declared.numbers.RowId.{RowId}
 use Rattle.cable_base.specs.declared.rows.Row.{Row}
 use Rattle.cable_base.proofs.Filters.{filter-same, filter-twice}
+use Rattle.cable_model.specs.declared.journals.Origin.{Origin}
+use Rattle.cable_model.specs.Journal.{conn_in, offer_in}
 use Rattle.cable_model.specs.Limits.{page_rows}
 use Rattle.cable_model.specs.Table.{Offer, TableStep, commits, gone, has_id, last_id, note_of, oldest, present, row_with}
 use Rattle.cable_model.proofs.Trimming.{gone-below}
 use Rattle.table_core.specs.Keepers.{without}
 use Rattle.table_core.specs.Tables.{read_note}
-use Rattle.table_core.specs.Shown.{Shows, CommitsFollow, TrimsFollow, ReadsFollow, RefusalsFollow}
+use Rattle.table_core.specs.declared.faults.StoreFault.{StoreFault}
+use Rattle.table_core.specs.declared.faults.StoreFault.TheVariants as store_fault
+use Rattle.table_core.specs.Shown.{Shows, CommitsFollow, TrimsFollow, ReadsFollow, RefusalsFollow, EntersCommit}
 
 -- no Trim took a row that is above the last id
 fresh : (past : List TableStep) (row : Row) → last_id past < row.id.0 → gone past row ≡ false
@@ -83,3 +89,23 @@ refusals_follow rows last past s =
       trim = λ now retention batch. record { shows = record { rows_are = s.rows_are; last_is = s.last_is }; legal = tt };
       read = λ node turn low hashes. record { shows = record { rows_are = s.rows_are; last_is = s.last_is }; legal = inl refl };
     }
+
+-- ---- a commit, by its answer
+
+module _ (from : Origin) (channel payload : List ℕ) (at : ℕ) (rows rows' : Option (List Row)) (last last' : ℕ) where
+  pub enters-row : (id : RowId) → id.0 ≡ last + 1 → last' ≡ id.0 → IfSome rows (λ told. rows' ≡ Some (told ++ row_with id.0 (offer_in channel payload at) ∷ []))
+      → EntersCommit from channel payload at (Ok id) rows rows' last last'
+  enters-row id next is row past s =
+      let offer = offer_in channel payload at in
+      let now : rows' ≡ Some (present past ++ row_with id.0 offer ∷ []) =
+      subst (λ (o : Option (List Row)). IfSome o (λ told. rows' ≡ Some (told ++ row_with id.0 offer ∷ []))) s.rows_are row in
+      record {
+        rows_are = now ∙ ap (λ (rs : List Row). Some rs) (present-commit past (conn_in from) offer id.0 (omega (arith, next, s.last_is)));
+        last_is = omega (arith, is, next, s.last_is, length-append (commits past) (row_with id.0 offer ∷ []));
+        legal = (omega (arith, next, s.last_is), s.legal);
+      }
+
+  pub enters-none : (f : StoreFault) → rows' ≡ rows → last' ≡ last → EntersCommit from channel payload at (Err f) rows rows' last last'
+  enters-none store_fault.Failed same is past s = record { rows_are = same ∙ s.rows_are; last_is = is ∙ s.last_is; legal = (tt, s.legal) }
+  enters-none store_fault.IdsSpent same is past s = record { rows_are = same ∙ s.rows_are; last_is = is ∙ s.last_is; legal = s.legal }
+  enters-none store_fault.OutOfMemory same is past s = record { rows_are = same ∙ s.rows_are; last_is = is ∙ s.last_is; legal = s.legal }

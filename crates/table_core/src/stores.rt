@@ -43,7 +43,7 @@ pub trait Reads {
 impl<K: Keeper> Store for Table<K> {
     ghost use Rattle.table_core.specs.Stores.{CommitsRow};
 
-    ghost commits = { λ old _ channel payload at result new. CommitsRow (record { rows = K.rows; faults = K.faults; calls = K.calls; failures = K.failures; place = K.place }) old channel payload at result new };
+    ghost commits = { λ old from channel payload at result new. CommitsRow (record { rows = K.rows; faults = K.faults; calls = K.calls; failures = K.failures; place = K.place }) old from channel payload at result new };
 
     fn commit(
         &mut self,

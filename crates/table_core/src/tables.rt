@@ -7,6 +7,7 @@ ghost use Rattle.cable_model.specs.Table.{missed_note, oldest, row_with, upto_of
 ghost use Rattle.table_core.specs.declared.faults.StoreFault.TheVariants as store_fault;
 ghost use Rattle.table_core.specs.Keepers.{CallsOnce, greatest_id, most_id, without};
 ghost use Rattle.table_core.specs.Memory.{told_to_fail};
+ghost use Rattle.table_core.specs.Shown.{EntersCommit};
 ghost use Rattle.table_core.specs.Tables.{EndsAt, IsCaughtOf, IsTable, IsWithinLimits, TableState, read_note};
 ghost use Rattle.poll_turn.specs.Notes.{note_in};
 
@@ -133,7 +134,7 @@ impl<K: Keeper> Table<K> {
     /// are as before.
     pub fn commit(
         &mut self,
-        _from: Origin,
+        from: Origin,
         channel: &str,
         payload: &str,
         at: Millis,
@@ -142,6 +143,7 @@ impl<K: Keeper> Table<K> {
         ensures next { IfOk result (λ id. id.0 ≡ self.old.last.0 + 1) }
         ensures last { IfOk result (λ id. self.new.last ≡ id) }
         ensures row { IfSome (K.rows self.old.keeper) (λ told. IfOk result (λ id. K.rows self.new.keeper ≡ Some (told ++ row_with id.0 (offer_in channel.now payload.now at.0) ∷ []))) }
+        ensures entry { EntersCommit from channel.now payload.now at.0 result (K.rows self.old.keeper) (K.rows self.new.keeper) self.old.last.0 self.new.last.0 }
         ensures tells { is_some (K.rows self.new.keeper) ≡ is_some (K.rows self.old.keeper) }
         ensures err { OnErr result ((K.rows self.new.keeper ≡ K.rows self.old.keeper) × (self.new.last ≡ self.old.last)) }
         ensures spent { IsErrOf result store_fault.IdsSpent ↔ (self.old.last.0 ≡ most_id) }

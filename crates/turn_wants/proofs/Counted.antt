@@ -30,7 +30,7 @@ fresh-user c d token user past l b =
 -- a Finish is one of a connection with a user
 pub finish-user : (c d : ℕ) (puts : List (Option RowId)) (plan : Plan) (past : List Step) → Legal (Step.Finish d puts plan ∷ past) → (d == c) ≡ true → (user : List ℕ) × (user_of c past ≡ Some user)
 finish-user c d puts plan past l b =
-    let found : HasPlan l.0.0.0 d past plan = has-plan l.0.0.0 d past plan l.0.0.1 in
+    let found : HasPlan l.0.0.callbacks d past plan = has-plan l.0.0.callbacks d past plan l.0.0.planned in
     let e : d ≡ c = grind (arith, nat_tests) in
     (found.user, subst (λ x. user_of x past ≡ Some found.user) e found.opened)
 

@@ -517,12 +517,12 @@ finish-owned : (c : ℕ) (puts : List (Option RowId)) (plan : Plan) (past : List
 finish-owned c puts plan past l o =
     let k = (seat c past).conn in
     let place = (seat c past).taken in
-    let found : HasPlan l.0.0.0 c past plan = has-plan l.0.0.0 c past plan l.0.0.1 in
+    let found : HasPlan l.0.0.callbacks c past plan = has-plan l.0.0.callbacks c past plan l.0.0.planned in
     let less = done-now c past found.out in
     let count : length (wants_of c past) ≡ suc (made c past) = wants-length c found.user past l.1 found.opened in
     let made_is : made c past ≡ k.made = sym (made-conn c past) in
     let new = wanted_with c place (made c past) k.subs plan.change in
-    let adds : AddsNew plan.change k.subs = subst (λ (p : Plan). AddsNew p.change k.subs) (sym found.plan_is) (plan-adds l.0.0.0 found.user k found.taken) in
+    let adds : AddsNew plan.change k.subs = subst (λ (p : Plan). AddsNew p.change k.subs) (sym found.plan_is) (plan-adds l.0.0.callbacks found.user k found.taken) in
     let b = bounds c past l.1 in
     let fresh : AllByRecursion (λ (y : Wanted). AllByRecursion (Owns y) (changed plan.change place k).subs) new =
     subst (λ n. AllByRecursion (λ (y : Wanted). AllByRecursion (Owns y) (changed plan.change place k).subs) (wanted_with c place n k.subs plan.change)) (sym made_is) (new-owns c plan.change place (seat c past).done k less o.apart b) in

@@ -1,19 +1,171 @@
 ghost use Rattle.std.specs.Prelude.{◌≡◌, ◌<◌};
 
-use crate::{FreeGate, listen_once, work_once};
+use crate::{FreeGate, Gate, listen_once, work_once};
 use cable_base::{ConnNo, Millis, NodeNo, RowId, Steps};
+use cable_model::Entry;
 use channel_book::Book;
-use node_core::Node;
+use node_core::{Desk, Ears, Node};
+use node_outbox::Out;
 use std::alloc::Global;
+use std::cell::Cell;
 use std::marker::Brand;
 use std::process::Abort;
 use std::sync::ledger::{Blank, Ledger};
 use std::test::Fail;
-use table_core::{MemKeeper, NotStarted, Table};
+use table_core::{MemKeeper, NotStarted, Reads, Store, Table};
 
-const BOOK: &str = r#"{"tokens":{"t1":"ann"},"channels":[{"name":"Club","streams":["club"]}]}"#;
+const CLUB: &str =
+    r#"{"tokens":{"t1":"ann"},"channels":[{"name":"Club","streams":["club"],"actions":[{"name":"speak","casts":["club"]}]}]}"#;
 
 const ANN: ConnNo = ConnNo(3);
+
+const SUBSCRIBE: &str = r#"{"command":"subscribe","identifier":"{\"channel\":\"Club\"}"}"#;
+
+const SPEAK: &str =
+    r#"{"command":"message","identifier":"{\"channel\":\"Club\"}","data":"{\"action\":\"speak\"}"}"#;
+
+const WELCOME: &str = r#"{"type":"welcome"}"#;
+
+const CONFIRMED: &str = r#"{"identifier":"{\"channel\":\"Club\"}","type":"confirm_subscription"}"#;
+
+const SPOKEN: &str = r#"{"identifier":"{\"channel\":\"Club\"}","message":{"action":"speak"}}"#;
+
+/// Counts how often it is entered with a piece of ann.
+#[derive(Drop)]
+struct CountedGate {
+    entries: Cell<u64>,
+}
+
+impl Gate for CountedGate {
+    fn enter(&self, conn: ConnNo) {
+        if conn == ANN {
+            self.entries.set(self.entries.get().saturating_add(1));
+        }
+    }
+}
+
+/// Ann's client comes.
+fn comes<D: Desk>(desk: &mut D, book: &Book) -> bool {
+    desk.open_conn(ANN, "t1", book).is_ok() && says(desk, WELCOME)
+}
+
+/// Ann's client sends this.
+fn sends<D: Desk>(desk: &mut D, text: &str) -> bool {
+    desk.arrive(ANN, text).is_ok()
+}
+
+/// Ann's client goes.
+fn goes<D: Desk>(desk: &mut D) -> bool {
+    matches!(desk.gone(ANN), Ok(true))
+}
+
+/// Whether this is what was queued first for ann, and nothing else is.
+fn says<D: Desk>(desk: &mut D, text: &str) -> bool {
+    match desk.take_out(ANN) {
+        Some(Out::Text(queued)) => queued.as_str() == text && desk.take_out(ANN).is_none(),
+        Some(Out::Note(_)) | None => false,
+    }
+}
+
+/// Works one piece, which enters the gate once.
+fn works<D: Desk, S: Store>(desk: &mut D, store: &mut S, book: &Book) -> bool {
+    let gate = CountedGate {
+        entries: Cell::new(0),
+    };
+    let worked = work_once(desk, store, book, &gate, Millis(5));
+    matches!(worked, Ok(true)) && gate.entries.get() == 1
+}
+
+/// Finds no piece to work, and doesn't enter the gate.
+fn is_idle<D: Desk, S: Store>(desk: &mut D, store: &mut S, book: &Book) -> bool {
+    let gate = CountedGate {
+        entries: Cell::new(0),
+    };
+    let worked = work_once(desk, store, book, &gate, Millis(5));
+    matches!(worked, Ok(false)) && gate.entries.get() == 0
+}
+
+/// Makes one turn, which is delivered.
+fn listens<E: Ears, S: Reads, L: Ledger>(
+    ears: &mut E,
+    store: &mut S,
+    steps: &mut Steps<L>,
+) -> bool {
+    matches!(listen_once(ears, store, steps), Ok(true))
+}
+
+/// Makes no turn, since one is out.
+fn waits<E: Ears, S: Reads, L: Ledger>(ears: &mut E, store: &mut S, steps: &mut Steps<L>) -> bool {
+    matches!(listen_once(ears, store, steps), Ok(false))
+}
+
+/// Asks a turn and lets it go, so that it stays out.
+fn asks<E: Ears>(ears: &mut E) -> bool {
+    match ears.ask() {
+        Ok(Some(turn)) => {
+            turn.give_up();
+            true
+        }
+        Ok(None) | Err(_) => false,
+    }
+}
+
+/// Whether the entry that was logged last finishes a piece of ann with these commits.
+fn finished(node: &Node, entries: u64, commits: &[Option<RowId>]) -> bool {
+    let last = match node.log().last() {
+        Some(Entry::Finish { conn, puts }) => *conn == ANN && puts.as_slice() == commits,
+        _ => false,
+    };
+    last && node.log_len() == entries
+}
+
+/// A subscription is made without a broadcast, and confirmed with the turn that takes its stream.
+fn subscribes<L: Ledger>(
+    node: &mut Node,
+    table: &mut Table<MemKeeper>,
+    book: &Book,
+    steps: &mut Steps<L>,
+) -> bool {
+    comes(node, book)
+        && is_idle(node, table, book)
+        && sends(node, SUBSCRIBE)
+        && works(node, table, book)
+        && finished(node, 5, &[])
+        && listens(node, table, steps)
+        && works(node, table, book)
+        && says(node, CONFIRMED)
+}
+
+/// What is spoken is committed and logged with its row's id. It comes with the next turn.
+fn speaks<L: Ledger>(
+    node: &mut Node,
+    table: &mut Table<MemKeeper>,
+    book: &Book,
+    steps: &mut Steps<L>,
+) -> bool {
+    sends(node, SPEAK)
+        && works(node, table, book)
+        && finished(node, 12, &[Some(RowId(1))])
+        && table.last() == RowId(1)
+        && node.take_out(ANN).is_none()
+        && listens(node, table, steps)
+        && works(node, table, book)
+        && says(node, SPOKEN)
+}
+
+/// A commit that is refused is logged as none, and the work goes on. Then the client goes.
+fn goes_on(node: &mut Node, table: &mut Table<MemKeeper>, book: &Book) -> bool {
+    table.fail_next();
+    sends(node, SPEAK)
+        && works(node, table, book)
+        && finished(node, 19, &[None])
+        && table.last() == RowId(1)
+        && node.take_out(ANN).is_none()
+        && goes(node)
+        && works(node, table, book)
+        && is_idle(node, table, book)
+        && node.is_over(ANN)
+}
 
 /// A table without rows.
 fn start(alloc: Global) -> Result<Table<MemKeeper>, Fail> {
@@ -23,31 +175,18 @@ fn start(alloc: Global) -> Result<Table<MemKeeper>, Fail> {
     }
 }
 
-/// A text that waits on a connection is worked, and then nothing is left to work.
-fn works_one_text(node: &mut Node, table: &mut Table<MemKeeper>, book: &Book) -> bool {
-    node.open_conn(ANN, "t1", book).is_ok()
-        && node.arrive(ANN, "{}").is_ok()
-        && work_once(node, table, book, &FreeGate, Millis(5)) == Ok(true)
-        && work_once(node, table, book, &FreeGate, Millis(5)) == Ok(false)
-}
-
-/// Asks a turn of the node and lets it go, so that it stays out.
-fn asks(node: &mut Node) -> bool {
-    match node.ask() {
-        Ok(Some(turn)) => {
-            turn.give_up();
-            true
-        }
-        Ok(None) | Err(_) => false,
-    }
-}
-
-/// Turns are made, until one is asked that isn't delivered.
-fn listens<L: Ledger>(node: &mut Node, table: &mut Table<MemKeeper>, steps: &mut Steps<L>) -> bool {
-    listen_once(node, table, steps) == Ok(true)
-        && listen_once(node, table, steps) == Ok(true)
-        && asks(node)
-        && listen_once(node, table, steps) == Ok(false)
+fn runs<L: Ledger>(
+    alloc: Global,
+    node: &mut Node,
+    book: &Book,
+    steps: &mut Steps<L>,
+) -> Result<[bool; 4], Fail> {
+    let mut table = start(alloc)?;
+    let subscribes = subscribes(node, &mut table, book, steps);
+    let speaks = speaks(node, &mut table, book, steps);
+    let goes_on = goes_on(node, &mut table, book);
+    let waits = asks(node) && waits(node, &mut table, steps);
+    Ok([subscribes, speaks, goes_on, waits])
 }
 
 fn run<L: Ledger>(rt: &impl Abort, alloc: Global, blank: Blank) -> Result<(), Fail>
@@ -56,11 +195,10 @@ fn run<L: Ledger>(rt: &impl Abort, alloc: Global, blank: Blank) -> Result<(), Fa
     requires some { 0 < blank.parts }
 {
     let mut steps = Steps::<L>::begin(blank);
-    let book = Book::read(alloc, BOOK)?;
+    let book = Book::read(alloc, CLUB)?;
     let mut node = Node::boot(alloc, NodeNo(1), RowId(0))?;
-    let mut table = start(alloc)?;
-    assert!(rt; works_one_text(&mut node, &mut table, &book));
-    assert!(rt; listens(&mut node, &mut table, &mut steps));
+    let ran = runs(alloc, &mut node, &book, &mut steps)?;
+    assert_eq!(rt; ran, [true; 4]);
     Ok(())
 }
 

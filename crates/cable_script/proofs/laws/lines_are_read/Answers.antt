@@ -1,4 +1,5 @@
-use Rattle.cable_script.proofs.FaultsOfTexts.{no_utf8_fault, utf8_fault, no_memory_fault}
+use Rattle.cable_script.specs.declared.faults.LineFault.TheVariants as fault
+use Rattle.cable_script.proofs.FirstFaults.{answered, broken}
 use Rattle.cable_script.proofs.GrammarRead.{line_is, line_of}
 use Rattle.cable_script.proofs.laws.lines_are_read.Goals as goal
 
@@ -9,7 +10,7 @@ pub returns-clause-line : goal.returns-clause-line
 returns-clause-line c line v l = (λ e. (line_is line v e).1, λ s. line_of line v l.utf8 s)
 
 pub returns-clause-utf8 : goal.returns-clause-utf8
-returns-clause-utf8 c line = (λ e u. no_utf8_fault line u e, utf8_fault line)
+returns-clause-utf8 c line = (broken line fault.NotUtf8, answered line fault.NotUtf8)
 
 pub returns-clause-memory : goal.returns-clause-memory
-returns-clause-memory c line e = no_memory_fault line e
+returns-clause-memory c line e = broken line fault.OutOfMemory e

@@ -8,7 +8,7 @@ use Rattle.node_outbox.specs.Outboxes.{Queues}
 use Rattle.node_seats.specs.Numbers.{seat_in}
 use Rattle.node_core.specs.Jobs.{Fits, WorkState}
 use Rattle.node_core.specs.Nodes.{NodeState}
-use Rattle.node_core.proofs.Finishes.{Ready, finishes-as, ignoring, live-out, out-on, plan-out, ready}
+use Rattle.node_core.proofs.Finishes.{Ready, answered-out, finishes-as, ignoring, live-out, out-on, plan-out, ready}
 use Rattle.node_core.proofs.Standing.{room-left}
 use Rattle.node_core.proofs.StayingReady.{alike-finished, goes-nowhere, goes-on, still-ready}
 use Rattle.node_core.proofs.nodes.Node.finish.Goals as goal
@@ -67,7 +67,8 @@ invariant_of-self-2 c =
     let at = subst (λ (s : Seated). Ready w.conn.0 (past_of c.self.inside.journal.kept) w.plan c.make_room.new.seats.entries s) (sym same) is.1 in
     let said = subst (λ (qs : List Queued). Queues qs c.make_room.new.outboxes c.put_all.new.self) c.in-Ok-make_room.ensures.outs c.put_all.ensures in (
       rw (c.enter.ensures.entered, c.in-Ok-make_room.ensures.kept, c.of-puts.ensures, c.release.ensures, c.put_change.ensures.wanted, c.put_change.ensures.taken, c.in-Ok-make_room.ensures.wanted, c.in-Ok-make_room.ensures.wanted_taken)
-          (finishes-as (ignoring c.work.invariant.callbacks c.work.invariant.user) w.conn w.place w.puts w.plan c.make_room.new.seats.entries c.finish.new.self.entries c.in-Some.seat.now c.make_room.new.outboxes c.put_all.new.self h f.out.place planned f.done
+          (finishes-as (ignoring c.work.invariant.callbacks c.work.invariant.user) w.conn w.place w.puts w.plan c.make_room.new.seats.entries c.finish.new.self.entries c.in-Some.seat.now c.make_room.new.outboxes c.put_all.new.self h f.out.place planned
+          (answered-out w.conn.0 w.place w.task w.plan w.puts (vec_capacity c.work.inside.puts) (past_of c.self.inside.journal.kept) c.work.invariant (out-on w n f)) f.done
           c.in-Ok-make_room.ensures.prepares at c.finish.ensures c.in-Ok-make_room.ensures.queues said),
       room-left _ c.make_room.new.journal c.enter.new.self c.in-Ok-make_room.ensures.log_room c.in-Ok-make_room.ensures.beside_room c.enter.ensures.log c.enter.ensures.beside,
       still-ready c.self.inside.seats.entries c.finish.new.self.entries (w.conn ∷ []) _ _ _ (alike-finished w.conn w.plan.change _ c.make_room.new.seats.entries _ c.in-Ok-make_room.ensures.prepares c.finish.ensures) c.self.invariant.2

@@ -1,6 +1,7 @@
 use Rattle.std.proofs.Common.{◌≡◌, ◌∙◌, List, map, refl, sym, ap}
 use Rattle.cable_base.specs.declared.numbers.ConnNo.{ConnNo}
 use Rattle.cable_model.specs.Script.{rules_of}
+use Rattle.cable_model.proofs.Answering.{books-answer}
 use Rattle.replay_cli.specs.Sessions.{held}
 use Rattle.replay_cli.proofs.Drained.{ok-both}
 use Rattle.replay_cli.proofs.FollowingBeats.{receiving-distinct, beat-within, beat_steps}
@@ -8,7 +9,7 @@ use Rattle.replay_cli.proofs.sessions.Session.beat.Goals as goal
 
 pub drain_each-requires-clause-distinct : goal.drain_each-requires-clause-distinct
 drain_each-requires-clause-distinct c =
-    receiving-distinct (rules_of c.args.self.now.book) (held c.args.self.now) c.requires.stands c.in-Some.node c.deref.result.now c.in-Some.is (ap (map (λ (d : ConnNo). d.0)) c.deref.ensures.value ∙ c.in_ok-conns.ensures)
+    receiving-distinct (rules_of c.args.self.now.book) (books-answer c.args.self.now.book) (held c.args.self.now) c.requires.stands c.in-Some.node c.deref.result.now c.in-Some.is (ap (map (λ (d : ConnNo). d.0)) c.deref.ensures.value ∙ c.in_ok-conns.ensures)
 
 pub drain_each-requires-clause-within : goal.drain_each-requires-clause-within
 drain_each-requires-clause-within c =

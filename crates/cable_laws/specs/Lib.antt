@@ -1,0 +1,4 @@
+pub mod CommandFaults
+pub mod Differ
+pub mod Said
+pub mod Placed

@@ -1,5 +1,0 @@
-use Rattle.cable_model.proofs.Sequencing.{inbox_kept}
-use Rattle.cable_model.proofs.laws.inbox_is_kept_call_by_call.Goals as goal
-
-pub returns : goal.returns
-returns c = inbox_kept

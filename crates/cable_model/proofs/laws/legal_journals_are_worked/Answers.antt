@@ -1,5 +1,0 @@
-use Rattle.cable_model.proofs.Stored.{stored-works}
-use Rattle.cable_model.proofs.laws.legal_journals_are_worked.Goals as goal
-
-pub returns : goal.returns
-returns c = stored-works

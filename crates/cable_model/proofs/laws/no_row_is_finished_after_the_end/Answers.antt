@@ -1,5 +1,0 @@
-use Rattle.cable_model.proofs.Ending.{none-after-end}
-use Rattle.cable_model.proofs.laws.no_row_is_finished_after_the_end.Goals as goal
-
-pub returns : goal.returns
-returns c = none-after-end

@@ -1,5 +1,0 @@
-use Rattle.cable_model.proofs.Sequencing.{in_sequence}
-use Rattle.cable_model.proofs.laws.pieces_are_worked_in_sequence.Goals as goal
-
-pub returns : goal.returns
-returns c = in_sequence

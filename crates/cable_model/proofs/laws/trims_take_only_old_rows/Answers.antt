@@ -1,5 +1,0 @@
-use Rattle.cable_model.proofs.Trimming.{history_trims}
-use Rattle.cable_model.proofs.laws.trims_take_only_old_rows.Goals as goal
-
-pub returns : goal.returns
-returns c = history_trims

@@ -1,0 +1,9 @@
+pub mod Names
+pub mod Reading
+pub mod Repeats
+pub mod Shapes
+pub mod Splits
+pub mod Templates
+pub mod Texts
+pub mod Walk
+pub mod Walking

@@ -1,0 +1,4 @@
+pub mod Books
+pub mod Lists
+pub mod Texts
+pub mod Walk
