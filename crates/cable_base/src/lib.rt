@@ -13,8 +13,6 @@ mod rows;
 mod squeezing;
 mod steps;
 mod streams;
-#[cfg(test)]
-mod tests;
 mod texts;
 
 pub use adapters::{StdSink, StdSource};

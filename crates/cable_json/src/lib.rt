@@ -12,6 +12,3 @@ pub use laws::{commands_are_what_texts_say, disconnects_are_what_payloads_say, t
 pub use reading::{read_command, read_json, remote};
 pub use reasons::Reason;
 pub use texts::{confirm, disconnect, message, ping, reject, welcome};
-
-#[cfg(test)]
-mod tests;

@@ -1,4 +1,5 @@
 pub mod CommandFaults
 pub mod Differ
+pub mod EachEvent
 pub mod Said
 pub mod Placed

@@ -18,6 +18,7 @@ ghost use Rattle.cable_model.specs.Steps.{Step};
 ghost use Rattle.cable_model.specs.Table.{TableStep};
 ghost use Rattle.cable_model.specs.Trims.{HistoryTrims, TrimsOld};
 ghost use Rattle.cable_model.specs.Window.{Reads, window};
+ghost use Rattle.cable_laws.specs.EachEvent.{StandsBehind};
 
 /// A law, which computes nothing. After every journal whose pieces are worked one at a time, each as it is planned, a connection is
 /// what all its pieces up to the last finished one make of a fresh one, worked in order. Only pieces that no longer stand are skipped.
@@ -97,4 +98,11 @@ pub fn legal_journals_are_worked()
 /// table that a merge of their logs ties: so also where threads ran.
 pub fn windows_of_journals()
     ensures { JournalWindows }
+{}
+
+/// A law, which computes nothing. Behind each event of each history no row of a hold was finished after its end, Trims took only rows that
+/// were older than their retention and never the newest, and each confirmation of a subscription with streams came behind the Deliver that
+/// took it.
+pub fn each_event_keeps_the_promises()
+    ensures { (r : Rules) (before : List Event) (e : Event) → StandsBehind r before e }
 {}

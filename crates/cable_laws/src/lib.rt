@@ -10,8 +10,8 @@ mod streams;
 pub use commands::commands_have_their_first_fault;
 pub use histories::{
     books_always_answer, confirmations_are_finished_behind_their_deliver,
-    finished_rows_are_the_window, inbox_is_kept_call_by_call, legal_journals_are_worked,
-    legal_trims_take_only_old_rows, no_row_is_finished_after_the_end,
+    each_event_keeps_the_promises, finished_rows_are_the_window, inbox_is_kept_call_by_call,
+    legal_journals_are_worked, legal_trims_take_only_old_rows, no_row_is_finished_after_the_end,
     pieces_are_worked_in_sequence, restrictions_are_legal, trims_take_only_old_rows,
     windows_of_histories, windows_of_journals,
 };

@@ -18,6 +18,3 @@ pub use pieces::Piece;
 pub use plans::{Change, Closing, Plan, Task};
 pub use statuses::{BreakReason, Status};
 pub use verbs::Verb;
-
-#[cfg(test)]
-mod tests;

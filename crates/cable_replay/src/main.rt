@@ -1,12 +1,13 @@
 //! Replays a session script: reads it from standard input and writes its transcript to standard output. With the word `--totals` a line
 //! stands behind it that tells how many rows were committed and trimmed, and how many texts and notes there are.
 //!
-//! It ends with the code of its status: 0 where all is written, 2 for other words, 3 for a script that isn't built, 7 where
+//! It ends with the code of its status: 0 where all is written, 2 for other words, 3 for bytes that are no script, 7 where
 //! standard input failed, 8 where standard output failed, 9 for want of memory, 12 for more than 2^40 bytes.
 #![tactic(auto)]
 
 use cable_base::{StdSink, StdSource};
 use cable_model::Status;
+use node_world::World;
 use replay_cli::replay;
 use std::process::ExitCode;
 use std::{env, io};
@@ -29,7 +30,12 @@ fn run(rt: &HostRuntime) -> Status {
     };
     let mut source = StdSource::on(rt.stdin());
     let mut sink = StdSink::on(rt.stdout());
-    replay(rt.alloc(), &words, &mut source, &mut sink)
+    let mut world = None;
+    let status = replay(rt.alloc(), &words, &mut source, &mut sink, &mut world);
+    if let Some(world) = world {
+        World::end(world);
+    }
+    status
 }
 
 fn main(rt: HostRuntime) -> ExitCode {

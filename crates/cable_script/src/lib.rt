@@ -17,6 +17,3 @@ pub use faults::LineFault;
 pub use laws::{lines_are_read, lines_have_their_first_fault};
 pub use reading::{read_line, utf8_text};
 pub use words::cut_word;
-
-#[cfg(test)]
-mod tests;

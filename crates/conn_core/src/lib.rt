@@ -19,6 +19,3 @@ pub use laws::{changes_are_steps, places_are_marks, plans_are_the_rules, plans_c
 pub use planning::plan;
 pub use subscriptions::Sub;
 pub use walking::among;
-
-#[cfg(test)]
-mod tests;

@@ -14,6 +14,3 @@ pub use laws::{
     turns_are_entries,
 };
 pub use seats::Seat;
-
-#[cfg(test)]
-mod tests;

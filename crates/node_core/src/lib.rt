@@ -20,10 +20,3 @@ pub use jobs::Job;
 pub use nodes::Node;
 pub use opening::OpenFault;
 pub use working::Work;
-
-#[cfg(test)]
-mod serving_tests;
-#[cfg(test)]
-mod tests;
-#[cfg(test)]
-mod turn_tests;

@@ -14,10 +14,3 @@ pub use laws::{holds_are_the_journals, holds_end_with_their_wants};
 pub use placing::{Placing, hold_all, placings};
 pub use placing_laws::turns_place_their_wants;
 pub use releasing::release;
-
-#[cfg(test)]
-mod bringing_tests;
-#[cfg(test)]
-mod placing_tests;
-#[cfg(test)]
-mod releasing_tests;

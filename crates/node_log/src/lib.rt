@@ -4,6 +4,3 @@
 mod logging;
 
 pub use logging::NodeLog;
-
-#[cfg(test)]
-mod tests;

@@ -7,6 +7,3 @@ mod outs;
 
 pub use outboxes::Outboxes;
 pub use outs::{Out, Queued};
-
-#[cfg(test)]
-mod tests;

@@ -14,6 +14,3 @@ pub use laws::{
 pub use opened::Opened;
 pub use seats::Seats;
 pub use turning::{Delivery, Wanted};
-
-#[cfg(test)]
-mod tests;

@@ -9,6 +9,3 @@ mod turns;
 pub use cursors::Cursor;
 pub use hashing::channel_hash;
 pub use turns::{Caught, Turn};
-
-#[cfg(test)]
-mod tests;

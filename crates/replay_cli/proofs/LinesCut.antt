@@ -9,7 +9,7 @@ use Rattle.cable_script.specs.Words.{◌>>=◌}
 use Rattle.cable_script.proofs.Cuts.{cut_is, some_is}
 use Rattle.replay_cli.specs.declared.scripts.Unread.{Unread}
 use Rattle.replay_cli.specs.declared.scripts.Unread.TheVariants as unread
-use Rattle.replay_cli.specs.Reading.{Fails, Gives, is_feed, parts_of, first_line, built_verb_of, verbs_of}
+use Rattle.replay_cli.specs.Reading.{Fails, Gives, is_feed, parts_of, first_line, short_verb_of, verbs_of}
 
 -- the first line stands before the others
 pub parts-cut : (bytes line behind : List ℕ) → first_line bytes ≡ Some (line, behind) → parts_of bytes ≡ line ∷ parts_of behind
@@ -50,10 +50,10 @@ some_part (x ∷ xs) = by_test (is_feed x) (some_part xs)
     by_test false h = (x ∷ h.0, h.1, ap (onto_first x) h.2)
 
 -- a line that is read stands before the verbs of the rest
-pub verbs-line : (line behind : List ℕ) → verbs_of (line ∷ parts_of behind) ≡ (built_verb_of line >>= λ verb. (verbs_of (parts_of behind) >>= λ verbs. Some (verb ∷ verbs)))
+pub verbs-line : (line behind : List ℕ) → verbs_of (line ∷ parts_of behind) ≡ (short_verb_of line >>= λ verb. (verbs_of (parts_of behind) >>= λ verbs. Some (verb ∷ verbs)))
 verbs-line line behind =
     let h = some_part behind in
-    subst (λ (ps : List (List ℕ)). verbs_of (line ∷ ps) ≡ (built_verb_of line >>= λ verb. (verbs_of ps >>= λ verbs. Some (verb ∷ verbs)))) (sym h.2) refl
+    subst (λ (ps : List (List ℕ)). verbs_of (line ∷ ps) ≡ (short_verb_of line >>= λ verb. (verbs_of ps >>= λ verbs. Some (verb ∷ verbs)))) (sym h.2) refl
 
 regroup : (front : List Verb) (v : Verb) (read : Option (List Verb)) → option_map (λ more. front ++ more) (read >>= λ verbs. Some (v ∷ verbs)) ≡ option_map (λ more. (front ++ v ∷ []) ++ more) read
 regroup front v None = refl
@@ -63,7 +63,7 @@ regroup front v (Some verbs) = ap (λ (vs : List Verb). Some vs) (sym (append_as
 abbrev pub Read : List Verb → List ℕ → List ℕ → Type 0
 Read so_far rest text = option_map (λ more. so_far ++ more) (verbs_of (parts_of rest)) ≡ verbs_of (parts_of text)
 
-pub read_line : (so_far next : List Verb) (rest line behind text : List ℕ) (v : Verb) → first_line rest ≡ Some (line, behind) → built_verb_of line ≡ Some v → next ≡ so_far ++ v ∷ []
+pub read_line : (so_far next : List Verb) (rest line behind text : List ℕ) (v : Verb) → first_line rest ≡ Some (line, behind) → short_verb_of line ≡ Some v → next ≡ so_far ++ v ∷ []
     → Read so_far rest text → Read next behind text
 read_line so_far next rest line behind text v cut is next_is before =
     let parts = parts-cut rest line behind cut in
@@ -71,7 +71,7 @@ read_line so_far next rest line behind text v cut is next_is before =
     subst (λ (n : List Verb). Read n behind text) (sym next_is)
     (sym (regroup so_far v (verbs_of (parts_of behind))) ∙ ap (λ o. option_map (λ more. so_far ++ more) o) (sym verbs ∙ ap (verbs_of) (sym parts)) ∙ before)
 
-pub refused_line : (so_far : List Verb) (rest line behind text : List ℕ) → first_line rest ≡ Some (line, behind) → built_verb_of line ≡ None → Read so_far rest text → verbs_of (parts_of text) ≡ None
+pub refused_line : (so_far : List Verb) (rest line behind text : List ℕ) → first_line rest ≡ Some (line, behind) → short_verb_of line ≡ None → Read so_far rest text → verbs_of (parts_of text) ≡ None
 refused_line so_far rest line behind text cut is before =
     let parts = parts-cut rest line behind cut in
     let verbs = verbs-line line behind ∙ ap (λ o. o >>= λ verb. (verbs_of (parts_of behind) >>= λ verbs. Some (verb ∷ verbs))) is in
@@ -92,7 +92,7 @@ pub shorter : (bytes line behind : List ℕ) → first_line bytes ≡ Some (line
 shorter bytes line behind e = let k = cut_is 10 bytes line behind e in omega (arith, ap length k.parts, length-append line (10 ∷ behind))
 
 -- a line was refused, or memory ran out
-pub refused : (so_far : List Verb) (rest line behind text : List ℕ) (f : Unread) → first_line rest ≡ Some (line, behind) → Gives {X = Verb} (λ v. v) (Err f) (built_verb_of line) → Read so_far rest text
+pub refused : (so_far : List Verb) (rest line behind text : List ℕ) (f : Unread) → first_line rest ≡ Some (line, behind) → Gives {X = Verb} (λ v. v) (Err f) (short_verb_of line) → Read so_far rest text
     → Fails f (verbs_of (parts_of text))
-refused so_far rest line behind text unread.NotBuilt cut is before = refused_line so_far rest line behind text cut is before
+refused so_far rest line behind text unread.NoScript cut is before = refused_line so_far rest line behind text cut is before
 refused so_far rest line behind text unread.OutOfMemory cut is before = tt

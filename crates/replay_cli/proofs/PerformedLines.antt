@@ -1,32 +1,47 @@
--- Lines that are worked one after the other, and the end line behind them, are the transcript.
+-- Lines that are worked one after the other, and what stands behind them, are what is written for a script.
 use Rattle.std.proofs.Common.{◌≡◌, ℕ, suc, ◌+◌, ◌<◌, ◌≤◌, List, [], ◌∷◌, ◌++◌, length, take, drop, Option, Result, Ok, Err, refl, sym, ap, subst, ◌∙◌, append_assoc, append-nil, take-append-drop, get_or, drop-cons, add-one}
 use Rattle.std.specs.Io.KnownBytes.{Appends}
 use Rattle.std.proofs.KnownBytes.{Appends-nil, Appends-trans}
 use Rattle.cable_base.specs.declared.faults.Trouble.{Trouble}
 use Rattle.cable_base.specs.declared.faults.Trouble.TheVariants as trouble
+use Rattle.channel_book.specs.Shapes.{Declared}
 use Rattle.cable_model.specs.declared.events.Event.{Event}
 use Rattle.cable_model.specs.declared.verbs.Verb.{Verb}
-use Rattle.cable_model.specs.History.{Rules, World, start, run}
-use Rattle.cable_model.specs.Transcript.{said_all, idle_count, lines_text, ended, end_line, totals_of, totals_line}
+use Rattle.cable_model.specs.History.{Rules, start, run}
+use Rattle.cable_model.specs.Transcript.{said_all, idle_count, lines_text, with_lines, ended, end_line, totals_of, totals_line}
 use Rattle.cable_model.specs.Script.{expand, expand_all, rules_of}
+use Rattle.node_world.specs.Worlds.{WorldState, StandsFor}
 use Rattle.replay_cli.specs.declared.running.Tally.{Tally}
 use Rattle.replay_cli.specs.declared.modes.Mode.{Mode}
 use Rattle.replay_cli.specs.declared.modes.Mode.TheVariants as mode
 use Rattle.replay_cli.specs.Modes.{output_of, tail_of}
 use Rattle.replay_cli.specs.Outputs.{Writing, Took, IsFront, Writes}
 use Rattle.replay_cli.specs.Reading.{Read}
-use Rattle.replay_cli.specs.Sessions.{Held, FollowsWorld}
 use Rattle.replay_cli.specs.Running.{RunsAs}
-use Rattle.replay_cli.specs.Replay.{Works, Performs}
+use Rattle.replay_cli.specs.Replay.{IsWorldOf, Works, Performs}
 use Rattle.replay_cli.proofs.WholeInputs.{Rose-later}
 use Rattle.replay_cli.proofs.RunsOn.{said_all-append, lines_text-append}
 
 -- a line's events were run, and what they said was written or broke off
-pub works_written : (r : Rules) (v : Verb) (old new : Held) (text : List ℕ) (a a' : Tally) (sink : Writing) (result : Result (Unit {0}) Trouble) → RunsAs r (expand v) old new [] text a a' → Writes sink text result
-    → (w : World) → FollowsWorld r old w → Works r w v new sink a a' result
-works_written r v old new text a a' sink (Ok u) p q w f = (subst (λ (x : List ℕ). Took sink x) (p.wrote w f) q, p.follows w f, p.counted, p.idle w f, p.totals w f)
-works_written r v old new text a a' sink (Err trouble.Failed) p q w f = (q.0, (q.1, subst (λ (x : List ℕ). IsFront q.0 x) (p.wrote w f) q.2, q.3))
-works_written r v old new text a a' sink (Err trouble.OutOfMemory) p q w f = (q.0, (q.1, subst (λ (x : List ℕ). IsFront q.0 x) (p.wrote w f) q.2))
+pub works_written : (v : Verb) (old new : WorldState) (text : List ℕ) (a a' : Tally) (sink : Writing) (result : Result (Unit {0}) Trouble) → RunsAs (expand v) old new [] text a a' → Writes sink text result
+    → (before : List Event) → StandsFor old before → Works v old new before sink a a' result
+works_written v old new text a a' sink (Ok u) p q before s = (subst (λ (x : List ℕ). Took sink x) (p.wrote before s) q, p.stands before s, p.counted, p.idle before s, p.totals before s)
+works_written v old new text a a' sink (Err trouble.Failed) p q before s = (q.0, (q.1, subst (λ (x : List ℕ). IsFront q.0 x) (p.wrote before s) q.2, q.3))
+works_written v old new text a a' sink (Err trouble.OutOfMemory) p q before s = (q.0, (q.1, subst (λ (x : List ℕ). IsFront q.0 x) (p.wrote before s) q.2))
+
+-- what a line came to that was worked, under these rules
+pub record Worked (r : Rules) (v : Verb) (new : WorldState) (before : List Event) (sink : Writing) (tally tally' : Tally) : Type 0 where
+  pub took : Took sink (lines_text (said_all r (run r start before) (expand v)))
+  pub stands : StandsFor new (before ++ expand v)
+  pub events : tally'.events ≡ tally.events + length (expand v)
+  pub idle : tally'.idle ≡ tally.idle + idle_count r (run r start before) (expand v)
+  pub totals : tally'.totals ≡ with_lines tally.totals (said_all r (run r start before) (expand v))
+
+-- the rules are those of the script's book
+pub worked_under : (book : Declared) (v : Verb) (old new : WorldState) (before : List Event) (sink : Writing) (a a' : Tally) (u : Unit {0}) → old.book ≡ book
+    → Works v old new before sink a a' (Ok u) → Worked (rules_of book) v new before sink a a'
+worked_under book v old new before sink a a' u e w =
+    subst (λ (b : Declared). Worked (rules_of b) v new before sink a a') e (record { took = w.0; stands = w.1; events = w.2; idle = w.3; totals = w.4 })
 
 pub expand_all-append : (us vs : List Verb) → expand_all (us ++ vs) ≡ expand_all us ++ expand_all vs
 expand_all-append [] vs = refl
@@ -78,28 +93,27 @@ output-parts mode.Totals s =
 front-output : (m : Mode) (s : Read) (front : List ℕ) → IsFront front (lines_text (said_all (rules_of s.book) start (expand_all s.verbs)) ++ tail_for m s) → IsFront front (output_of m s)
 front-output m s front f = subst (λ (x : List ℕ). IsFront front x) (output-parts m s) f
 
+-- what was written when a line broke off is the beginning of what is written for the script
+front_of_script : (m : Mode) (s : Read) (us ws : List Verb) (v : Verb) (old : WorldState) (front : List ℕ) → s.verbs ≡ us ++ v ∷ ws → old.book ≡ s.book
+    → IsFront front (lines_text (said_all (rules_of old.book) (run (rules_of old.book) start (expand_all us)) (expand v)))
+    → IsFront (lines_text (said_all (rules_of s.book) start (expand_all us)) ++ front) (output_of m s)
+front_of_script m s us ws v old front e b f =
+    let r = rules_of s.book in
+    let here = subst (λ (x : Declared). IsFront front (lines_text (said_all (rules_of x) (run (rules_of x) start (expand_all us)) (expand v)))) b f in
+    front-output m s (lines_text (said_all r start (expand_all us)) ++ front)
+    (front_of_all r (expand_all us) (expand v) (expand_all ws) (expand_all s.verbs) front (tail_for m s) (expand_all-parts us ws s.verbs v e) here)
+
 -- a line broke off
-pub performs_refused : (m : Mode) (s : Read) (us ws : List Verb) (v : Verb) (h : Held) (f : Trouble) (t0 t1 t2 : Option (List ℕ)) (w0 w1 w2 : ℕ) (a a' : Tally) → s.verbs ≡ us ++ v ∷ ws
-    → Appends t0 t1 (lines_text (said_all (rules_of s.book) start (expand_all us))) → w0 ≤ w1
-    → Works (rules_of s.book) (run (rules_of s.book) start (expand_all us)) v h (record { taken = t1; taken_behind = t2; faults = w1; faults_behind = w2 }) a a' (Err f)
+pub performs_refused : (m : Mode) (s : Read) (us ws : List Verb) (v : Verb) (old new : WorldState) (f : Trouble) (t0 t1 t2 : Option (List ℕ)) (w0 w1 w2 : ℕ) (a a' : Tally) → s.verbs ≡ us ++ v ∷ ws
+    → old.book ≡ s.book → Appends t0 t1 (lines_text (said_all (rules_of s.book) start (expand_all us))) → w0 ≤ w1
+    → Works v old new (expand_all us) (record { taken = t1; taken_behind = t2; faults = w1; faults_behind = w2 }) a a' (Err f)
     → Performs m s (record { taken = t0; taken_behind = t2; faults = w0; faults_behind = w2 }) (Err f)
-performs_refused m s us ws v h trouble.Failed t0 t1 t2 w0 w1 w2 a a' e p le q = (
-  lines_text (said_all (rules_of s.book) start (expand_all us)) ++ q.0,
-  (
-    Appends-trans t0 t1 t2 (lines_text (said_all (rules_of s.book) start (expand_all us))) q.0 p q.1.0,
-    front-output m s (lines_text (said_all (rules_of s.book) start (expand_all us)) ++ q.0)
-        (front_of_all (rules_of s.book) (expand_all us) (expand v) (expand_all ws) (expand_all s.verbs) q.0 (tail_for m s) (expand_all-parts us ws s.verbs v e) q.1.1),
-    Rose-later w0 w1 w2 le q.1.2,
-  ),
-)
-performs_refused m s us ws v h trouble.OutOfMemory t0 t1 t2 w0 w1 w2 a a' e p le q = (
-  lines_text (said_all (rules_of s.book) start (expand_all us)) ++ q.0,
-  (
-    Appends-trans t0 t1 t2 (lines_text (said_all (rules_of s.book) start (expand_all us))) q.0 p q.1.0,
-    front-output m s (lines_text (said_all (rules_of s.book) start (expand_all us)) ++ q.0)
-        (front_of_all (rules_of s.book) (expand_all us) (expand v) (expand_all ws) (expand_all s.verbs) q.0 (tail_for m s) (expand_all-parts us ws s.verbs v e) q.1.1),
-  ),
-)
+performs_refused m s us ws v old new trouble.Failed t0 t1 t2 w0 w1 w2 a a' e b p le q =
+    let so_far = lines_text (said_all (rules_of s.book) start (expand_all us)) in
+    (so_far ++ q.0, (Appends-trans t0 t1 t2 so_far q.0 p q.1.0, front_of_script m s us ws v old q.0 e b q.1.1, Rose-later w0 w1 w2 le q.1.2))
+performs_refused m s us ws v old new trouble.OutOfMemory t0 t1 t2 w0 w1 w2 a a' e b p le q =
+    let so_far = lines_text (said_all (rules_of s.book) start (expand_all us)) in
+    (so_far ++ q.0, (Appends-trans t0 t1 t2 so_far q.0 p q.1.0, front_of_script m s us ws v old q.0 e b q.1.1))
 
 tail_front : (a front tail : List ℕ) → IsFront front tail → IsFront (a ++ front) (a ++ tail)
 tail_front a front tail f = (f.0, append_assoc a front f.0 ∙ ap (λ x. a ++ x) f.1)
@@ -113,19 +127,26 @@ pub performs_unended : (m : Mode) (s : Read) (t0 t1 : Option (List ℕ)) (w0 w1 
     → Performs m s (record { taken = t0; taken_behind = t1; faults = w0; faults_behind = w1 }) (Err trouble.OutOfMemory)
 performs_unended m s t0 t1 w0 w1 p = let a = lines_text (said_all (rules_of s.book) start (expand_all s.verbs)) in (a, (p, front-output m s a (tail_for m s, refl)))
 
--- what stands behind the lines was written, or broke off
-pub performs_end : (m : Mode) (s : Read) (tail : List ℕ) (result : Result (Unit {0}) Trouble) (t0 t1 t2 : Option (List ℕ)) (w0 w1 w2 : ℕ)
+-- what stands behind the lines was written
+pub performs_all : (m : Mode) (s : Read) (w : WorldState) (tail : List ℕ) (t0 t1 t2 : Option (List ℕ)) (w0 w1 w2 : ℕ)
+    → tail ≡ tail_for m s
+    → Appends t0 t1 (lines_text (said_all (rules_of s.book) start (expand_all s.verbs)))
+    → Writes (record { taken = t1; taken_behind = t2; faults = w1; faults_behind = w2 }) tail (Ok tt) → IsWorldOf s w
+    → Performs m s (record { taken = t0; taken_behind = t2; faults = w0; faults_behind = w2 }) (Ok w)
+performs_all m s w tail t0 t1 t2 w0 w1 w2 e p q stands =
+    let a = lines_text (said_all (rules_of s.book) start (expand_all s.verbs)) in
+    (subst (λ (x : List ℕ). Appends t0 t2 x) (ap (λ x. a ++ x) e ∙ output-parts m s) (Appends-trans t0 t1 t2 a tail p q), stands)
+
+-- or broke off
+pub performs_broken : (m : Mode) (s : Read) (tail : List ℕ) (f : Trouble) (t0 t1 t2 : Option (List ℕ)) (w0 w1 w2 : ℕ)
     → tail ≡ tail_for m s
     → Appends t0 t1 (lines_text (said_all (rules_of s.book) start (expand_all s.verbs))) → w0 ≤ w1
-    → Writes (record { taken = t1; taken_behind = t2; faults = w1; faults_behind = w2 }) tail result
-    → Performs m s (record { taken = t0; taken_behind = t2; faults = w0; faults_behind = w2 }) result
-performs_end m s tail (Ok u) t0 t1 t2 w0 w1 w2 e p le q =
-    let a = lines_text (said_all (rules_of s.book) start (expand_all s.verbs)) in
-    subst (λ (x : List ℕ). Appends t0 t2 x) (ap (λ x. a ++ x) e ∙ output-parts m s) (Appends-trans t0 t1 t2 a tail p q)
-performs_end m s tail (Err trouble.Failed) t0 t1 t2 w0 w1 w2 e p le q =
+    → Writes (record { taken = t1; taken_behind = t2; faults = w1; faults_behind = w2 }) tail (Err f)
+    → Performs m s (record { taken = t0; taken_behind = t2; faults = w0; faults_behind = w2 }) (Err f)
+performs_broken m s tail trouble.Failed t0 t1 t2 w0 w1 w2 e p le q =
     let a = lines_text (said_all (rules_of s.book) start (expand_all s.verbs)) in
     (a ++ q.0, (Appends-trans t0 t1 t2 a q.0 p q.1, subst (λ (x : List ℕ). IsFront (a ++ q.0) x) (ap (λ x. a ++ x) e ∙ output-parts m s) (tail_front a q.0 tail q.2), Rose-later w0 w1 w2 le q.3))
-performs_end m s tail (Err trouble.OutOfMemory) t0 t1 t2 w0 w1 w2 e p le q =
+performs_broken m s tail trouble.OutOfMemory t0 t1 t2 w0 w1 w2 e p le q =
     let a = lines_text (said_all (rules_of s.book) start (expand_all s.verbs)) in
     (a ++ q.0, (Appends-trans t0 t1 t2 a q.0 p q.1, subst (λ (x : List ℕ). IsFront (a ++ q.0) x) (ap (λ x. a ++ x) e ∙ output-parts m s) (tail_front a q.0 tail q.2)))
 

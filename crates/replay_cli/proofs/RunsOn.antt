@@ -1,13 +1,15 @@
 -- Events that are run one behind the other say what they say together.
 use Rattle.std.proofs.Common.{◌≡◌, ℕ, ◌+◌, List, [], ◌∷◌, ◌++◌, refl, sym, ap, subst, ◌∙◌, append_assoc, length-append, arith}
 use Rattle.std.proofs.lemmas.Grind.{flat_map-append}
+use Rattle.channel_book.specs.Shapes.{Declared}
 use Rattle.cable_model.specs.declared.events.Event.{Event}
 use Rattle.cable_model.specs.declared.lines.Line.{Line}
-use Rattle.cable_model.specs.History.{Rules, World, happen, run}
+use Rattle.cable_model.specs.History.{Rules, World, start, happen, run}
+use Rattle.cable_model.specs.Script.{rules_of}
 use Rattle.cable_model.specs.declared.lines.Totals.{Totals}
 use Rattle.cable_model.specs.Transcript.{said, said_all, idle_count, lines_text, line_text, ended, with_line, with_lines}
+use Rattle.node_world.specs.Worlds.{WorldState, StandsFor, after}
 use Rattle.replay_cli.specs.declared.running.Tally.{Tally}
-use Rattle.replay_cli.specs.Sessions.{Held, FollowsWorld}
 use Rattle.replay_cli.specs.Running.{RunsAs}
 
 pub run-append : (r : Rules) (w : World) (es fs : List Event) → run r w (es ++ fs) ≡ run r (run r w es) fs
@@ -38,15 +40,33 @@ totals-append r w es fs t0 t1 t2 p q =
     let second = said_all r (run r w es) fs in
     q ∙ ap (λ t. with_lines t second) p ∙ sym (with_lines-append t0 first second) ∙ ap (with_lines t0) (sym (said_all-append r w es fs))
 
-pub runs_on : (r : Rules) (es fs : List Event) (h0 h1 h2 : Held) (t0 t1 t2 : List ℕ) (a0 a1 a2 : Tally) → RunsAs r es h0 h1 t0 t1 a0 a1 → RunsAs r fs h1 h2 t1 t2 a1 a2 → RunsAs r (es ++ fs) h0 h2 t0 t2 a0 a2
-runs_on r es fs h0 h1 h2 t0 t1 t2 a0 a1 a2 p q = record {
-  wrote = λ w f.
-      let first = lines_text (said_all r w es) in
-      let second = lines_text (said_all r (run r w es) fs) in
-      q.wrote (run r w es) (p.follows w f) ∙ ap (λ t. t ++ second) (p.wrote w f) ∙ append_assoc t0 first second
-      ∙ ap (λ t. t0 ++ t) (sym (lines_text-append (said_all r w es) (said_all r (run r w es) fs)) ∙ ap lines_text (sym (said_all-append r w es fs)));
-  counted = omega (arith, p.counted, q.counted, length-append es fs);
-  idle = λ w f. omega (arith, p.idle w f, q.idle (run r w es) (p.follows w f), idle_count-append r w es fs);
-  totals = λ w f. totals-append r w es fs a0.totals a1.totals a2.totals (p.totals w f) (q.totals (run r w es) (p.follows w f));
-  follows = λ w f. subst (λ (x : World). FollowsWorld r h2 x) (sym (run-append r w es fs)) (q.follows (run r w es) (p.follows w f));
-}
+-- what events say behind others that were run under the same book
+pub said_on : (old new : WorldState) (before es fs : List Event) → new.book ≡ old.book
+    → said_all (rules_of new.book) (after new (before ++ es)) fs ≡ said_all (rules_of old.book) (run (rules_of old.book) (after old before) es) fs
+said_on old new before es fs e =
+    ap (λ (b : Declared). said_all (rules_of b) (run (rules_of b) start (before ++ es)) fs) e ∙ ap (λ (w : World). said_all (rules_of old.book) w fs) (run-append (rules_of old.book) start before es)
+
+-- and how many of them are idle
+pub idle_on : (old new : WorldState) (before es fs : List Event) → new.book ≡ old.book
+    → idle_count (rules_of new.book) (after new (before ++ es)) fs ≡ idle_count (rules_of old.book) (run (rules_of old.book) (after old before) es) fs
+idle_on old new before es fs e =
+    ap (λ (b : Declared). idle_count (rules_of b) (run (rules_of b) start (before ++ es)) fs) e ∙ ap (λ (w : World). idle_count (rules_of old.book) w fs) (run-append (rules_of old.book) start before es)
+
+pub runs_on : (es fs : List Event) (w0 w1 w2 : WorldState) (t0 t1 t2 : List ℕ) (a0 a1 a2 : Tally) → w1.book ≡ w0.book → RunsAs es w0 w1 t0 t1 a0 a1 → RunsAs fs w1 w2 t1 t2 a1 a2 → RunsAs (es ++ fs) w0 w2 t0 t2 a0 a2
+runs_on es fs w0 w1 w2 t0 t1 t2 a0 a1 a2 e p q =
+    let r = rules_of w0.book in
+    record {
+      wrote = λ before s.
+          let w = after w0 before in
+          let first = lines_text (said_all r w es) in
+          let second = lines_text (said_all r (run r w es) fs) in
+          q.wrote (before ++ es) (p.stands before s) ∙ ap (λ (ls : List Line). t1 ++ lines_text ls) (said_on w0 w1 before es fs e)
+          ∙ ap (λ (t : List ℕ). t ++ second) (p.wrote before s) ∙ append_assoc t0 first second
+          ∙ ap (λ (t : List ℕ). t0 ++ t) (sym (lines_text-append (said_all r w es) (said_all r (run r w es) fs)) ∙ ap lines_text (sym (said_all-append r w es fs)));
+      counted = omega (arith, p.counted, q.counted, length-append es fs);
+      idle = λ before s. omega (arith, p.idle before s, q.idle (before ++ es) (p.stands before s), idle_on w0 w1 before es fs e, idle_count-append r (after w0 before) es fs);
+      totals = λ before s.
+          totals-append r (after w0 before) es fs a0.totals a1.totals a2.totals (p.totals before s)
+          (q.totals (before ++ es) (p.stands before s) ∙ ap (with_lines a1.totals) (said_on w0 w1 before es fs e));
+      stands = λ before s. subst (λ (x : List Event). StandsFor w2 x) (append_assoc before es fs) (q.stands (before ++ es) (p.stands before s));
+    }

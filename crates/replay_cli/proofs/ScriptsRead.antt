@@ -1,10 +1,10 @@
--- The built scripts are exactly what is read as one.
+-- The scripts are exactly what is read as one.
 use Rattle.std.proofs.Common.{◌≡◌, ℕ, ◌≤◌, List, [], ◌∷◌, ◌++◌, length, Bool, true, false, cond, Some, None, Result, Ok, Err, refl, sym, ap, subst, ◌∙◌, arith}
 use Rattle.std.specs.Prelude.{nat_le, ◌==◌, codes, bytes_eq, IsUtf8}
 use Rattle.std.specs.Result.{result_ok}
-use Rattle.std.specs.List.{list_all, list_any, onto_first, join_with_byte}
+use Rattle.std.specs.List.{list_any, onto_first, join_with_byte}
 use Rattle.std.proofs.lemmas.Str.{is_utf8-from_IsUtf8, IsUtf8-from_is_utf8}
-use Rattle.std.proofs.lemmas.Bool.{and_parts, and_from, leb-true, eqb-true}
+use Rattle.std.proofs.lemmas.Bool.{and_parts, leb-true, eqb-true}
 use Rattle.std.proofs.lemmas.Bool.Decides.{nat_tests}
 use Rattle.std.proofs.lemmas.Option.{cond_some, same_Some}
 use Rattle.std.proofs.lemmas.Slice.Eq.{bytes_eq-Decides}
@@ -13,16 +13,15 @@ use Rattle.channel_book.specs.declared.faults.BookFault.{BookFault}
 use Rattle.channel_book.specs.Shapes.{Declared}
 use Rattle.channel_book.specs.Books.{book_of}
 use Rattle.cable_model.specs.declared.verbs.Verb.{Verb}
-use Rattle.cable_model.specs.Script.{Spells, IsLine, AllSpell, IsScript, bytes_of_lines, header, book_line}
+use Rattle.cable_model.specs.Script.{Spells, IsLine, AllSpell, bytes_of_lines, header, book_line}
 use Rattle.cable_script.specs.Words.{◌>>=◌, first_word, after_word}
 use Rattle.cable_script.specs.declared.faults.LineFault.{LineFault}
 use Rattle.cable_script.specs.Reading.{verb_of}
 use Rattle.cable_script.proofs.Cuts.{Cut, either_false, cut_is, cut_of}
 use Rattle.cable_script.proofs.GrammarRead.{line_is, line_of}
 use Rattle.cable_script.proofs.WordsRead.{bind_is, bind_of, word_is, word_found}
-use Rattle.replay_cli.specs.Built.{is_built_verb, IsBuilt}
-use Rattle.replay_cli.specs.Reading.{line_text, short_line, short_verb_of, built_verb_of, verbs_of, book_in, parts_of, first_line, behind_header, script_with, script_of, Read}
-use Rattle.replay_cli.specs.Scripts.{IsBuiltScript}
+use Rattle.replay_cli.specs.Reading.{line_text, short_line, short_verb_of, verbs_of, book_in, parts_of, first_line, behind_header, script_with, script_of, Read}
+use Rattle.replay_cli.specs.Scripts.{IsScriptOf}
 
 -- ---- the text of a line
 
@@ -45,12 +44,6 @@ text_of line h =
 
 -- ---- a line behind the book
 
--- it is text, spells the verb, and the verb is built
-record IsBuiltLine (line : List ℕ) (v : Verb) : Type 0 where
-  text : IsText line
-  spells : Spells v line
-  built : is_built_verb v ≡ true
-
 ok_is : {X F : Type 0} (r : Result X F) (x : X) → result_ok r ≡ Some x → r ≡ Ok x
 ok_is {X} {F} (Ok y) x e = ap (λ (z : X). let r : Result X F = Ok z in r) (same_Some y x e)
 ok_is (Err f) x e = absurd cc
@@ -68,27 +61,12 @@ short_is line v e =
     let here : IsUtf8 line × Spells v line = subst (λ (x : List ℕ). IsUtf8 x × Spells v x) (sym c.1) l in
     record { text = record { utf8 = here.0; short = leb-true _ _ c.0 }; spells = here.1 }
 
-built_is : (line : List ℕ) (v : Verb) → built_verb_of line ≡ Some v → IsBuiltLine line v
-built_is line v e =
-    let verb = bind_is _ _ v e in
-    let c = cond_some _ verb.0 v verb.1.1 in
-    let read = short_is line verb.0 verb.1.0 in
-    record {
-      text = read.text;
-      spells = subst (λ (w : Verb). Spells w line) c.1 read.spells;
-      built = subst (λ (w : Verb). is_built_verb w ≡ true) c.1 c.0;
-    }
-
 short_found : (line : List ℕ) (v : Verb) → IsLine line → Spells v line → short_verb_of line ≡ Some v
 short_found line v l s =
     let short : length line ≤ 1200000 = l.short in
     let within : nat_le (length line) 1200000 ≡ true = grind (arith, nat_tests) in
     let found : short_line line ≡ Some line = rw within refl in
     bind_of (short_line line) (λ (x : List ℕ). result_ok (verb_of x)) line v found (ap (λ (r : Result Verb LineFault). result_ok r) (line_of line v l.utf8 s))
-
-built_found : (line : List ℕ) (v : Verb) → IsLine line → Spells v line → is_built_verb v ≡ true → built_verb_of line ≡ Some v
-built_found line v l s b =
-    bind_of (short_verb_of line) (λ (w : Verb). cond (is_built_verb w) (Some w) None) v v (short_found line v l s) (rw b refl)
 
 -- ---- the parts between line feeds
 
@@ -116,13 +94,13 @@ fronts (part ∷ next ∷ parts) = part ∷ fronts (next ∷ parts)
 record IsStep (part : List ℕ) (parts : List (List ℕ)) (verbs : List Verb) : Type 0 where
   first : Verb
   more : List Verb
-  here : built_verb_of part ≡ Some first
+  here : short_verb_of part ≡ Some first
   behind : verbs_of parts ≡ Some more
   whole : first ∷ more ≡ verbs
 
 step_is : (part next : List ℕ) (parts : List (List ℕ)) (verbs : List Verb) → verbs_of (part ∷ next ∷ parts) ≡ Some verbs → IsStep part (next ∷ parts) verbs
 step_is part next parts verbs e =
-    let v = bind_is (built_verb_of part) (λ (w : Verb). verbs_of (next ∷ parts) >>= λ ws. Some (w ∷ ws)) verbs e in
+    let v = bind_is (short_verb_of part) (λ (w : Verb). verbs_of (next ∷ parts) >>= λ ws. Some (w ∷ ws)) verbs e in
     let more = bind_is (verbs_of (next ∷ parts)) (λ (ws : List Verb). Some (v.0 ∷ ws)) verbs v.1.1 in
     record { first = v.0; more = more.0; here = v.1.0; behind = more.1.0; whole = same_Some (v.0 ∷ more.0) verbs more.1.1 }
 
@@ -144,19 +122,9 @@ fronts_spell [] verbs h e = absurd cc
 fronts_spell (part ∷ []) verbs h e = subst (λ (vs : List Verb). AllSpell vs []) (cond_some _ [] verbs e).1 tt
 fronts_spell (part ∷ next ∷ parts) verbs h e =
     let st = step_is part next parts verbs e in
-    let line = built_is part st.first st.here in
+    let line = short_is part st.first st.here in
     subst (λ (vs : List Verb). AllSpell vs (fronts (part ∷ next ∷ parts))) st.whole
     (record { utf8 = line.text.utf8; short = line.text.short; one = h.0 }, line.spells, fronts_spell (next ∷ parts) st.more h.1 st.behind)
-
--- and is built
-fronts_built : (parts : List (List ℕ)) (verbs : List Verb) → verbs_of parts ≡ Some verbs → list_all is_built_verb verbs ≡ true
-fronts_built [] verbs e = absurd cc
-fronts_built (part ∷ []) verbs e = subst (λ (vs : List Verb). list_all is_built_verb vs ≡ true) (cond_some _ [] verbs e).1 refl
-fronts_built (part ∷ next ∷ parts) verbs e =
-    let st = step_is part next parts verbs e in
-    let line = built_is part st.first st.here in
-    subst (λ (vs : List Verb). list_all is_built_verb vs ≡ true) st.whole
-    (and_from _ _ line.built (fronts_built (next ∷ parts) st.more st.behind))
 
 -- a line is the first part
 line_split : (line rest : List ℕ) → list_any (λ b. b == 10) line ≡ false → parts_of (line ++ 10 ∷ rest) ≡ line ∷ parts_of rest
@@ -165,21 +133,20 @@ line_split (b ∷ line) rest e =
     let h = either_false (b == 10) (list_any (λ b. b == 10) line) e in
     rw (h.0, line_split line rest h.1) refl
 
-verbs_step : (line : List ℕ) (parts : List (List ℕ)) (v : Verb) (vs : List Verb) → built_verb_of line ≡ Some v → verbs_of parts ≡ Some vs → verbs_of (line ∷ parts) ≡ Some (v ∷ vs)
+verbs_step : (line : List ℕ) (parts : List (List ℕ)) (v : Verb) (vs : List Verb) → short_verb_of line ≡ Some v → verbs_of parts ≡ Some vs → verbs_of (line ∷ parts) ≡ Some (v ∷ vs)
 verbs_step line [] v vs e h = absurd cc
 verbs_step line (next ∷ parts) v vs e h =
-    bind_of (built_verb_of line) (λ (w : Verb). verbs_of (next ∷ parts) >>= λ ws. Some (w ∷ ws)) v (v ∷ vs) e
+    bind_of (short_verb_of line) (λ (w : Verb). verbs_of (next ∷ parts) >>= λ ws. Some (w ∷ ws)) v (v ∷ vs) e
     (bind_of (verbs_of (next ∷ parts)) (λ (ws : List Verb). Some (v ∷ ws)) vs (v ∷ vs) h refl)
 
--- lines that spell built verbs are read as them
-verbs_found : (verbs : List Verb) (lines : List (List ℕ)) → AllSpell verbs lines → list_all is_built_verb verbs ≡ true → verbs_of (parts_of (bytes_of_lines lines)) ≡ Some verbs
-verbs_found [] [] s b = refl
-verbs_found [] (line ∷ lines) s b = absurd s
-verbs_found (v ∷ vs) [] s b = absurd s
-verbs_found (v ∷ vs) (line ∷ lines) s b =
-    let h = and_parts _ _ b in
+-- lines that spell verbs are read as them
+verbs_found : (verbs : List Verb) (lines : List (List ℕ)) → AllSpell verbs lines → verbs_of (parts_of (bytes_of_lines lines)) ≡ Some verbs
+verbs_found [] [] s = refl
+verbs_found [] (line ∷ lines) s = absurd s
+verbs_found (v ∷ vs) [] s = absurd s
+verbs_found (v ∷ vs) (line ∷ lines) s =
     subst (λ (parts : List (List ℕ)). verbs_of parts ≡ Some (v ∷ vs)) (sym (line_split line (bytes_of_lines lines) s.0.one))
-    (verbs_step line (parts_of (bytes_of_lines lines)) v vs (built_found line v s.0 s.1 h.0) (verbs_found vs lines s.2 h.1))
+    (verbs_step line (parts_of (bytes_of_lines lines)) v vs (short_found line v s.0 s.1) (verbs_found vs lines s.2))
 
 -- ---- the first lines
 
@@ -248,25 +215,23 @@ rest_is book rest s e =
     }
 
 -- what was read as a script is one, with a book and what stands behind it
-whole_is : (bytes line rest : List ℕ) (s : Read) → bytes ≡ header ++ 10 ∷ (line ++ 10 ∷ rest) → list_any (λ b. b == 10) line ≡ false → IsText line → (book : Declared) → IsBook line book → IsRest book rest s → IsBuiltScript bytes s
+whole_is : (bytes line rest : List ℕ) (s : Read) → bytes ≡ header ++ 10 ∷ (line ++ 10 ∷ rest) → list_any (λ b. b == 10) line ≡ false → IsText line → (book : Declared) → IsBook line book → IsRest book rest s → IsScriptOf bytes s
 whole_is bytes line rest s whole one t book b r =
     let lines = fronts (parts_of rest) in
     let joined : rest ≡ bytes_of_lines lines = sym (join_with_byte-slice_split 10 rest) ∙ fronts_joined (parts_of rest) s.verbs r.verbs in
     let behind : bytes ≡ header ++ 10 ∷ (line ++ 10 ∷ bytes_of_lines lines) = subst (λ (x : List ℕ). bytes ≡ header ++ 10 ∷ (line ++ 10 ∷ x)) joined whole in
-    let isline : IsLine line = record { utf8 = t.utf8; short = t.short; one = one } in (
-      record {
-        text = b.text;
-        lines = lines;
-        parts = subst (λ (l : List ℕ). bytes ≡ header ++ 10 ∷ (l ++ 10 ∷ bytes_of_lines lines)) b.spelled behind;
-        second = subst (λ (l : List ℕ). IsLine l) b.spelled isline;
-        declares = subst (λ (k : Declared). book_of b.text ≡ Ok k) r.same_book b.declares;
-        spelled = fronts_spell (parts_of rest) s.verbs (parts_feedless rest) r.verbs;
-      },
-      fronts_built (parts_of rest) s.verbs r.verbs,
-    )
+    let isline : IsLine line = record { utf8 = t.utf8; short = t.short; one = one } in
+    record {
+      text = b.text;
+      lines = lines;
+      parts = subst (λ (l : List ℕ). bytes ≡ header ++ 10 ∷ (l ++ 10 ∷ bytes_of_lines lines)) b.spelled behind;
+      second = subst (λ (l : List ℕ). IsLine l) b.spelled isline;
+      declares = subst (λ (k : Declared). book_of b.text ≡ Ok k) r.same_book b.declares;
+      spelled = fronts_spell (parts_of rest) s.verbs (parts_feedless rest) r.verbs;
+    }
 
--- what is read as a script is a built script
-pub script_read : (bytes : List ℕ) (s : Read) → script_of bytes ≡ Some s → IsBuiltScript bytes s
+-- what is read as a script is one
+pub script_read : (bytes : List ℕ) (s : Read) → script_of bytes ≡ Some s → IsScriptOf bytes s
 script_read bytes s e =
     let rest = bind_is _ _ s e in
     let second = bind_is _ _ s rest.1.1 in
@@ -279,17 +244,17 @@ script_read bytes s e =
     (subst (λ (l : List ℕ). IsBook l book.0) (sym t.1) (book_is line.0 book.0 book.1.0))
     (rest_is book.0 second.0.1 s book.1.1)
 
-rest_found : (lines : List (List ℕ)) (s : Read) → AllSpell s.verbs lines → IsBuilt s.verbs → script_with s.book (bytes_of_lines lines) ≡ Some s
-rest_found lines s spelled b =
-    bind_of (verbs_of (parts_of (bytes_of_lines lines))) (λ (vs : List Verb). Some (record { book = s.book; verbs = vs })) s.verbs s (verbs_found s.verbs lines spelled b) refl
+rest_found : (lines : List (List ℕ)) (s : Read) → AllSpell s.verbs lines → script_with s.book (bytes_of_lines lines) ≡ Some s
+rest_found lines s spelled =
+    bind_of (verbs_of (parts_of (bytes_of_lines lines))) (λ (vs : List Verb). Some (record { book = s.book; verbs = vs })) s.verbs s (verbs_found s.verbs lines spelled) refl
 
--- a built script is read
-pub script_found : (bytes : List ℕ) (s : Read) → IsScript bytes s.book s.verbs → IsBuilt s.verbs → script_of bytes ≡ Some s
-script_found bytes s i b =
+-- a script is read
+pub script_found : (bytes : List ℕ) (s : Read) → IsScriptOf bytes s → script_of bytes ≡ Some s
+script_found bytes s i =
     let line = book_line i.text in
     let rest = bytes_of_lines i.lines in
     subst (λ (x : List ℕ). script_of x ≡ Some s) (sym i.parts)
     (bind_of _ _ (line ++ 10 ∷ rest) s (header_found (line ++ 10 ∷ rest))
     (bind_of _ _ (line, rest) s (first_found line rest i.second.one)
     (bind_of _ _ line s (text_of line i.second)
-    (bind_of _ _ s.book s (book_found i.text s.book i.declares) (rest_found i.lines s i.spelled b)))))
+    (bind_of _ _ s.book s (book_found i.text s.book i.declares) (rest_found i.lines s i.spelled)))))

@@ -1,4 +1,3 @@
-pub mod Built
 pub mod Inputs
 pub mod Modes
 pub mod Outputs
@@ -6,5 +5,3 @@ pub mod Reading
 pub mod Replay
 pub mod Running
 pub mod Scripts
-pub mod Sessions
-pub mod Draining

@@ -1,4 +1,4 @@
--- How a built script is read: line by line, from its front. That this reads exactly the built scripts is the law `scripts_are_read`.
+-- How a script is read: line by line, from its front. That this reads exactly the scripts is the law `scripts_are_read`.
 use Rattle.std.specs.Prelude.{◌≡◌, ◌==◌, ⊤, ℕ, Bool, ◌&&◌, nat_le, nat_lt, List, [], ◌∷◌, length, codes, Option, Some, None, Result, Ok, Err, if◌then◌else◌, bytes_eq}
 use Rattle.std.specs.List.{slice_split, before_first, after_first, position_or_len}
 use Rattle.std.specs.Result.{result_ok}
@@ -11,11 +11,10 @@ use Rattle.cable_script.specs.Words.{◌>>=◌, first_word, after_word}
 use Rattle.cable_script.specs.Reading.{verb_of}
 use Rattle.replay_cli.specs.declared.scripts.Unread.{Unread}
 use Rattle.replay_cli.specs.declared.scripts.Unread.TheVariants as unread
-use Rattle.replay_cli.specs.Built.{is_built_verb}
 
 -- reading gave, seen by view, what is expected, unless memory ran out
 abbrev pub Fails : {Y : Type 0} → Unread → Option Y → Type 0
-Fails unread.NotBuilt expected = expected ≡ None
+Fails unread.NoScript expected = expected ≡ None
 Fails unread.OutOfMemory expected = ⊤
 
 abbrev pub Gives : {X Y : Type 0} → (X → Y) → Result X Unread → Option Y → Type 0
@@ -36,15 +35,11 @@ short_line line = if nat_le (length line) 1200000 then Some line else None
 abbrev pub short_verb_of : List ℕ → Option Verb
 short_verb_of line = short_line line >>= λ short. result_ok (verb_of short)
 
--- the verb of a line that is built
-abbrev pub built_verb_of : List ℕ → Option Verb
-built_verb_of line = short_verb_of line >>= λ verb. (if is_built_verb verb then Some verb else None)
-
 -- the verbs of what stands between line feeds. Behind the last one stands nothing
 abbrev pub verbs_of : List (List ℕ) → Option (List Verb)
 verbs_of [] = None
 verbs_of (line ∷ []) = if length line == 0 then Some [] else None
-verbs_of (line ∷ next ∷ parts) = built_verb_of line >>= λ verb. (verbs_of (next ∷ parts) >>= λ verbs. Some (verb ∷ verbs))
+verbs_of (line ∷ next ∷ parts) = short_verb_of line >>= λ verb. (verbs_of (next ∷ parts) >>= λ verbs. Some (verb ∷ verbs))
 
 -- ---- the script
 

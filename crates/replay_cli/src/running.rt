@@ -1,13 +1,12 @@
 ghost use Rattle.std.specs.Prelude.{◌≡◌, ◌+◌, ◌<◌, ◌≤◌, ◌^◌, ◌∷◌, [], All, IfOk, OnOk, length};
-ghost use Rattle.cable_model.specs.Script.{rules_of};
 ghost use Rattle.cable_model.specs.Transcript.{with_line, with_lines, no_totals};
-ghost use Rattle.replay_cli.specs.Sessions.{held, FollowsSome, IsPlayed};
+ghost use Rattle.node_world.specs.Steps.{IsPlayed};
 ghost use Rattle.replay_cli.specs.Running.{RunsAs};
 
 use crate::printing::push_lines;
-use crate::sessions::Session;
 use cable_base::OutOfMemory;
 use cable_model::{Event, Line, Totals};
+use node_world::World;
 use std::alloc::Global;
 
 /// How many events were stepped, how many of them were idle, and what their lines come to.
@@ -67,20 +66,19 @@ fn count_lines(totals: &mut Totals, lines: &[Line]) -> Result<(), OutOfMemory>
 /// Steps one event, writes its lines behind the text, and counts it.
 fn run_event(
     alloc: Global,
-    session: &mut Session,
+    world: &mut World,
     event: &Event,
     text: &mut Vec<u8>,
     tally: &mut Tally,
 ) -> Result<(), OutOfMemory>
-    requires stands { FollowsSome (rules_of session.old.book) (held session.old) }
     requires played { IsPlayed event.now }
     requires events { tally.old.events + 1 < 2 ^ 64 }
     requires idle { tally.old.idle ≤ tally.old.events }
-    ensures runs { OnOk result (RunsAs (rules_of session.old.book) (event.now ∷ []) (held session.old) (held session.new) text.old.items text.new.items tally.old tally.new) }
+    ensures runs { OnOk result (RunsAs (event.now ∷ []) world.old world.new text.old.items text.new.items tally.old tally.new) }
     ensures idle { OnOk result (tally.new.idle ≤ tally.new.events) }
-    ensures book { session.new.book ≡ session.old.book }
+    ensures book { world.new.book ≡ world.old.book }
 {
-    let said = session.step(alloc, event)?;
+    let said = world.step(alloc, event)?;
     push_lines(alloc, text, said.lines.as_slice())?;
     count_lines(&mut tally.totals, said.lines.as_slice())?;
     tally.events += 1;
@@ -93,21 +91,20 @@ fn run_event(
 /// Works a line: steps its events, writes their lines behind the text, and counts them.
 pub fn run_events(
     alloc: Global,
-    session: &mut Session,
+    world: &mut World,
     events: &[Event],
     text: &mut Vec<u8>,
     tally: &mut Tally,
 ) -> Result<(), OutOfMemory>
-    requires stands { FollowsSome (rules_of session.old.book) (held session.old) }
     requires played { All IsPlayed events.now }
     requires events { tally.old.events + length events.now < 2 ^ 64 }
     requires idle { tally.old.idle ≤ tally.old.events }
-    ensures runs { OnOk result (RunsAs (rules_of session.old.book) events.now (held session.old) (held session.new) text.old.items text.new.items tally.old tally.new) }
+    ensures runs { OnOk result (RunsAs events.now world.old world.new text.old.items text.new.items tally.old tally.new) }
     ensures idle { OnOk result (tally.new.idle ≤ tally.new.events) }
-    ensures book { session.new.book ≡ session.old.book }
+    ensures book { world.new.book ≡ world.old.book }
 {
     for event in events {
-        run_event(alloc, session, event, text, tally)?;
+        run_event(alloc, world, event, text, tally)?;
     }
     Ok(())
 }

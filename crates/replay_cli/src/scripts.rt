@@ -1,9 +1,8 @@
 ghost use Rattle.std.specs.Prelude.{◌≡◌, ◌+◌, ◌≤◌, length, option_map, position, Some, None, bytes_eq, codes, if◌then◌else◌, IfOk};
-ghost use Rattle.replay_cli.specs.Built.{is_built_event, is_built_verb};
-ghost use Rattle.replay_cli.specs.Reading.{Gives, first_line, is_feed, behind_header, line_text, book_in, short_verb_of, built_verb_of, verbs_of, parts_of, script_with, script_of};
+ghost use Rattle.replay_cli.specs.Reading.{Gives, first_line, is_feed, behind_header, line_text, book_in, short_verb_of, verbs_of, parts_of, script_with, script_of};
 
 use cable_base::OutOfMemory;
-use cable_model::{Event, Verb};
+use cable_model::Verb;
 use cable_script::{LineFault, cut_word, read_line, utf8_text};
 use channel_book::{Book, BookFault};
 use std::alloc::{AllocFailed, Global};
@@ -13,12 +12,10 @@ const HEADER: &[u8] = b"cable-script 1";
 /// The most bytes of a line, without its line feed.
 const MOST_LINE_BYTES: usize = 1_200_000;
 
-const MOST_PUTS: u64 = 1_000;
-
-/// Why a script isn't read: it is no built script, or memory was wanted.
+/// Why bytes aren't read as a script: they are none, or memory was wanted.
 #[derive(Clone, Copy, Debug, PartialEq, Eq)]
 pub enum Unread {
-    NotBuilt,
+    NoScript,
     OutOfMemory,
 }
 
@@ -44,7 +41,7 @@ impl<T: Drop> From<AllocFailed<T>> for Unread {
     }
 }
 
-/// A built script: its book, and what its lines stand for.
+/// A script: its book, and what its lines stand for.
 #[derive(Debug, Drop)]
 pub struct Script {
     pub book: Book,
@@ -90,47 +87,15 @@ fn read_book(alloc: Global, line: &str) -> Result<Book, Unread>
 {
     let (word, text) = cut_word(line);
     let Some(text) = text else {
-        return Err(Unread::NotBuilt);
+        return Err(Unread::NoScript);
     };
     if word != "book" {
-        return Err(Unread::NotBuilt);
+        return Err(Unread::NoScript);
     }
     match Book::read(alloc, text) {
         Ok(book) => Ok(book),
         Err(BookFault::OutOfMemory) => Err(Unread::OutOfMemory),
-        Err(_) => Err(Unread::NotBuilt),
-    }
-}
-
-fn is_built_event(event: &Event) -> bool
-    ensures { result ≡ is_built_event event.now }
-{
-    match event {
-        Event::Boot { node }
-        | Event::Open { node, .. }
-        | Event::Stop { node }
-        | Event::Ask { node }
-        | Event::Read { node }
-        | Event::Deliver { node }
-        | Event::Beat { node, .. } => node.0 == 1,
-        Event::In { .. }
-        | Event::Drop { .. }
-        | Event::Take { .. }
-        | Event::Put { .. }
-        | Event::Finish { .. }
-        | Event::Cast { .. }
-        | Event::Trim { .. }
-        | Event::Fault => true,
-    }
-}
-
-fn is_built(verb: &Verb) -> bool
-    ensures { result ≡ is_built_verb verb.now }
-{
-    match verb {
-        Verb::One { event } => is_built_event(event),
-        Verb::Work { puts, .. } => *puts <= MOST_PUTS,
-        Verb::Poll { node } => node.0 == 1,
+        Err(_) => Err(Unread::NoScript),
     }
 }
 
@@ -139,23 +104,12 @@ fn short_verb(alloc: Global, line: &[u8]) -> Result<Verb, Unread>
     ensures { Gives (λ v. v) result (short_verb_of line.now) }
 {
     if line.len() > MOST_LINE_BYTES {
-        return Err(Unread::NotBuilt);
+        return Err(Unread::NoScript);
     }
     match read_line(alloc, line) {
         Ok(verb) => Ok(verb),
         Err(LineFault::OutOfMemory) => Err(Unread::OutOfMemory),
-        Err(_) => Err(Unread::NotBuilt),
-    }
-}
-
-fn built_verb(alloc: Global, line: &[u8]) -> Result<Verb, Unread>
-    ensures { Gives (λ v. v) result (built_verb_of line.now) }
-{
-    let verb = short_verb(alloc, line)?;
-    if is_built(&verb) {
-        Ok(verb)
-    } else {
-        Err(Unread::NotBuilt)
+        Err(_) => Err(Unread::NoScript),
     }
 }
 
@@ -167,14 +121,14 @@ fn read_lines(alloc: Global, text: &[u8]) -> Result<Vec<Verb>, Unread>
     let mut verbs = Vec::new(alloc);
     let mut rest = text;
     while let Some((line, behind)) = first_line(rest) {
-        let verb = built_verb(alloc, line)?;
+        let verb = short_verb(alloc, line)?;
         verbs.push(verb)?;
         rest = behind;
     }
     if rest.is_empty() {
         Ok(verbs)
     } else {
-        Err(Unread::NotBuilt)
+        Err(Unread::NoScript)
     }
 }
 
@@ -186,19 +140,19 @@ fn read_behind_book(alloc: Global, book: Book, rest: &[u8]) -> Result<Script, Un
     Ok(Script { book, verbs })
 }
 
-/// Reads a built script. `NotBuilt` exactly where the bytes are none.
+/// Reads a script. `NoScript` exactly where the bytes are none.
 pub fn read_script(alloc: Global, bytes: &[u8]) -> Result<Script, Unread>
     ensures read { Gives (λ s. record { book = s.book; verbs = s.verbs.items }) result (script_of bytes.now) }
     ensures few { IfOk result (λ s. length s.verbs.items ≤ length bytes.now) }
 {
     let Some(rest) = behind_header(bytes) else {
-        return Err(Unread::NotBuilt);
+        return Err(Unread::NoScript);
     };
     let Some((line, rest)) = first_line(rest) else {
-        return Err(Unread::NotBuilt);
+        return Err(Unread::NoScript);
     };
     let Some(line) = line_text(line) else {
-        return Err(Unread::NotBuilt);
+        return Err(Unread::NoScript);
     };
     let book = read_book(alloc, line)?;
     read_behind_book(alloc, book, rest)

@@ -7,6 +7,3 @@ mod ready_lists;
 
 pub use inboxes::{Inbox, Taken, Unpushed};
 pub use ready_lists::Ready;
-
-#[cfg(test)]
-mod tests;

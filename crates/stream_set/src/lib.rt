@@ -6,6 +6,3 @@ mod sets;
 
 pub use entries::StreamEntry;
 pub use sets::StreamSet;
-
-#[cfg(test)]
-mod tests;

@@ -6,6 +6,3 @@ mod mapping;
 
 pub use holding::Hold;
 pub use mapping::SubscriberMap;
-
-#[cfg(test)]
-mod tests;

@@ -17,6 +17,3 @@ pub use laws::{
 pub use memory::MemKeeper;
 pub use stores::{Reads, Store};
 pub use tables::{NotStarted, Table};
-
-#[cfg(test)]
-mod tests;

@@ -4,6 +4,3 @@
 mod policies;
 
 pub use policies::Policy;
-
-#[cfg(test)]
-mod tests;

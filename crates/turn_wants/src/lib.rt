@@ -10,6 +10,3 @@ pub use laws::{
     confirmations_come_with_their_turn, marks_are_placed_by_the_turn, wants_are_the_journals,
 };
 pub use wants::Wants;
-
-#[cfg(test)]
-mod tests;

@@ -1,0 +1,12 @@
+pub mod Drained
+pub mod Following
+pub mod FollowingBeats
+pub mod FollowingJobs
+pub mod FollowingNode
+pub mod FollowingOpens
+pub mod FollowingPuts
+pub mod FollowingTable
+pub mod FollowingTexts
+pub mod FollowingTurns
+pub mod Showing
+pub mod WorksStay

@@ -1,0 +1,4 @@
+pub mod Draining
+pub mod Parts
+pub mod Steps
+pub mod Worlds

@@ -1,5 +1,0 @@
-use Rattle.replay_cli.proofs.sessions.Session.deliver.Given as goal
-
--- the steps are counted in the ledger of the blank
-abbrev pub ghosts-deliver_counted : goal.ghosts-deliver_counted
-ghosts-deliver_counted a = record { name = a.blank.name; parts = a.blank.parts }
