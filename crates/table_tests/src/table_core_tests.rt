@@ -282,61 +282,63 @@ fn failed_calls_change_nothing(rt: HostRuntime) -> Result<(), Fail> {
     Ok(())
 }
 
+/// A read finds the rows of the streams that it asks for, above the id.
+const SEEKS: [Act; 10] = [
+    Act::Commits {
+        stream: "a",
+        at: 5,
+        id: 1,
+    },
+    Act::Commits {
+        stream: "b",
+        at: 5,
+        id: 2,
+    },
+    Act::Commits {
+        stream: "a",
+        at: 5,
+        id: 3,
+    },
+    Act::Commits {
+        stream: "c",
+        at: 5,
+        id: 4,
+    },
+    Act::Commits {
+        stream: "b",
+        at: 5,
+        id: 5,
+    },
+    Act::Commits {
+        stream: "a",
+        at: 5,
+        id: 6,
+    },
+    Act::Reads {
+        lower: 0,
+        streams: &["a", "a"],
+        ids: &[1, 3, 6],
+    },
+    Act::Reads {
+        lower: 1,
+        streams: &["b", "a"],
+        ids: &[2, 3, 5, 6],
+    },
+    Act::Reads {
+        lower: 3,
+        streams: &["a", "d"],
+        ids: &[6],
+    },
+    Act::Reads {
+        lower: 6,
+        streams: &["a", "b"],
+        ids: &[],
+    },
+];
+
 #[test]
 fn reads_ask_by_hash_and_id(rt: HostRuntime) -> Result<(), Fail> {
-    let acts = [
-        Act::Commits {
-            stream: "a",
-            at: 5,
-            id: 1,
-        },
-        Act::Commits {
-            stream: "b",
-            at: 5,
-            id: 2,
-        },
-        Act::Commits {
-            stream: "a",
-            at: 5,
-            id: 3,
-        },
-        Act::Commits {
-            stream: "c",
-            at: 5,
-            id: 4,
-        },
-        Act::Commits {
-            stream: "b",
-            at: 5,
-            id: 5,
-        },
-        Act::Commits {
-            stream: "a",
-            at: 5,
-            id: 6,
-        },
-        Act::Reads {
-            lower: 0,
-            streams: &["a", "a"],
-            ids: &[1, 3, 6],
-        },
-        Act::Reads {
-            lower: 1,
-            streams: &["b", "a"],
-            ids: &[2, 3, 5, 6],
-        },
-        Act::Reads {
-            lower: 3,
-            streams: &["a", "d"],
-            ids: &[6],
-        },
-        Act::Reads {
-            lower: 6,
-            streams: &["a", "b"],
-            ids: &[],
-        },
-    ];
-    assert_eq!(rt; of_empty(rt.alloc(), acts.as_slice())?, None);
+    assert_eq!(rt; of_empty(rt.alloc(), &SEEKS)?, None);
     Ok(())
 }
 
@@ -372,97 +374,99 @@ fn trims_take_batches_by_id(rt: HostRuntime) -> Result<(), Fail> {
     Ok(())
 }
 
+/// The edge of the retention stays, and so does the newest row. Lowest ids go first.
+const EDGES: [Act; 16] = [
+    Act::Commits {
+        stream: "x",
+        at: 4000,
+        id: 1,
+    },
+    Act::Commits {
+        stream: "x",
+        at: 1000,
+        id: 2,
+    },
+    Act::Commits {
+        stream: "x",
+        at: 2000,
+        id: 3,
+    },
+    Act::Commits {
+        stream: "x",
+        at: 1500,
+        id: 4,
+    },
+    Act::Commits {
+        stream: "x",
+        at: 3000,
+        id: 5,
+    },
+    Act::Commits {
+        stream: "x",
+        at: 0,
+        id: 6,
+    },
+    Act::Trims {
+        now: 3000,
+        retention: 1000,
+        batch: 0,
+        taken: 0,
+    },
+    Act::Reads {
+        lower: 0,
+        streams: &["x"],
+        ids: &[1, 2, 3, 4, 5, 6],
+    },
+    Act::Trims {
+        now: 3000,
+        retention: 1000,
+        batch: 1,
+        taken: 1,
+    },
+    Act::Reads {
+        lower: 0,
+        streams: &["x"],
+        ids: &[1, 3, 4, 5, 6],
+    },
+    Act::Trims {
+        now: 3000,
+        retention: 1000,
+        batch: 5,
+        taken: 1,
+    },
+    Act::Reads {
+        lower: 0,
+        streams: &["x"],
+        ids: &[1, 3, 5, 6],
+    },
+    Act::Trims {
+        now: 3000,
+        retention: 1000,
+        batch: 5,
+        taken: 0,
+    },
+    Act::Reads {
+        lower: 0,
+        streams: &["x"],
+        ids: &[1, 3, 5, 6],
+    },
+    Act::Trims {
+        now: 9000,
+        retention: 9500,
+        batch: 100,
+        taken: 0,
+    },
+    Act::Trims {
+        now: 9000,
+        retention: 1000,
+        batch: 100,
+        taken: 3,
+    },
+];
+
 #[test]
 fn trims_keep_the_edge_and_the_newest(rt: HostRuntime) -> Result<(), Fail> {
-    let acts = [
-        Act::Commits {
-            stream: "x",
-            at: 4000,
-            id: 1,
-        },
-        Act::Commits {
-            stream: "x",
-            at: 1000,
-            id: 2,
-        },
-        Act::Commits {
-            stream: "x",
-            at: 2000,
-            id: 3,
-        },
-        Act::Commits {
-            stream: "x",
-            at: 1500,
-            id: 4,
-        },
-        Act::Commits {
-            stream: "x",
-            at: 3000,
-            id: 5,
-        },
-        Act::Commits {
-            stream: "x",
-            at: 0,
-            id: 6,
-        },
-        Act::Trims {
-            now: 3000,
-            retention: 1000,
-            batch: 0,
-            taken: 0,
-        },
-        Act::Reads {
-            lower: 0,
-            streams: &["x"],
-            ids: &[1, 2, 3, 4, 5, 6],
-        },
-        Act::Trims {
-            now: 3000,
-            retention: 1000,
-            batch: 1,
-            taken: 1,
-        },
-        Act::Reads {
-            lower: 0,
-            streams: &["x"],
-            ids: &[1, 3, 4, 5, 6],
-        },
-        Act::Trims {
-            now: 3000,
-            retention: 1000,
-            batch: 5,
-            taken: 1,
-        },
-        Act::Reads {
-            lower: 0,
-            streams: &["x"],
-            ids: &[1, 3, 5, 6],
-        },
-        Act::Trims {
-            now: 3000,
-            retention: 1000,
-            batch: 5,
-            taken: 0,
-        },
-        Act::Reads {
-            lower: 0,
-            streams: &["x"],
-            ids: &[1, 3, 5, 6],
-        },
-        Act::Trims {
-            now: 9000,
-            retention: 9500,
-            batch: 100,
-            taken: 0,
-        },
-        Act::Trims {
-            now: 9000,
-            retention: 1000,
-            batch: 100,
-            taken: 3,
-        },
-    ];
-    assert_eq!(rt; of_empty(rt.alloc(), acts.as_slice())?, None);
+    assert_eq!(rt; of_empty(rt.alloc(), &EDGES)?, None);
     Ok(())
 }
 
