@@ -1,5 +1,9 @@
 pub mod Statuses
 pub mod Script
+pub mod VerbTable
+pub mod LineBreaks
+pub mod Breaks
+pub mod Printed
 pub mod Limits
 pub mod Steps
 pub mod Connection

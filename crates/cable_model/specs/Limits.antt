@@ -30,6 +30,14 @@ most_name = 1024
 abbrev pub most_payload : ℕ
 most_payload = 1048576
 
+-- bytes of a script's line, without its line feed
+abbrev pub most_line : ℕ
+most_line = 1200000
+
+-- bytes of a script
+abbrev pub most_script : ℕ
+most_script = 2 ^ 40
+
 -- rows that a read gives at most: as many as there are, until reads are paged
 abbrev pub page_rows : ℕ
 page_rows = 2 ^ 64 - 1

@@ -12,7 +12,7 @@ use Rattle.channel_book.specs.Books.{book_of}
 use Rattle.channel_book.specs.Answers.{identified_by, subscribed_by, unsubscribed_by, performed_by}
 use Rattle.cable_model.specs.declared.events.Event.{Event}
 use Rattle.cable_model.specs.declared.events.Event.TheVariants.{Boot, Open, In, Drop, Stop, Take, Put, Finish, Cast, Trim, Ask, Read, Deliver, Beat, Fault}
-use Rattle.cable_model.specs.Limits.{page_rows}
+use Rattle.cable_model.specs.Limits.{most_name, most_payload, most_line, page_rows}
 use Rattle.cable_model.specs.Plans.{Callbacks}
 use Rattle.cable_model.specs.History.{Rules}
 use Rattle.cable_model.specs.declared.verbs.Verb.{Verb}
@@ -62,8 +62,8 @@ pub record IsCast (channel json payload : List ℕ) : Type 0 where
   pub name : IsWord channel
   pub reads : IsSome (read json)
   pub squeezes : payload ≡ squeezed json
-  pub short_name : length channel ≤ 1024
-  pub short_payload : length payload ≤ 1048576
+  pub short_name : length channel ≤ most_name
+  pub short_payload : length payload ≤ most_payload
 
 -- the line of an event
 abbrev pub SpellsEvent : Event → List ℕ → Type 0
@@ -91,11 +91,14 @@ Spells (One event) line = SpellsEvent event line
 Spells (Work conn at puts) line = IsConn conn × IsMoment at × IsFrom 0 1000 puts × (line ≡ spaced (codes "work" ∷ decimal conn.0 ∷ decimal at.0 ∷ decimal puts ∷ []))
 Spells (Poll node) line = IsNode node × (line ≡ spaced (codes "poll" ∷ decimal node.0 ∷ []))
 
+abbrev pub HasNoFeed : List ℕ → Type 0
+HasNoFeed bytes = list_any (λ b. b == 10) bytes ≡ false
+
 -- what may stand between two line feeds: UTF-8 of at most 1,200,000 bytes
 pub record IsLine (line : List ℕ) : Type 0 where
   pub utf8 : IsUtf8 line
-  pub short : length line ≤ 1200000
-  pub one : list_any (λ b. b == 10) line ≡ false
+  pub short : length line ≤ most_line
+  pub one : HasNoFeed line
 
 -- each line spells its verb
 abbrev pub AllSpell : List Verb → List (List ℕ) → Type 0
@@ -117,14 +120,23 @@ header = codes "cable-script 1"
 abbrev pub book_line : List ℕ → List ℕ
 book_line text = spaced (codes "book" ∷ text ∷ [])
 
--- the header, the line of the book, and lines that spell these verbs
-pub record IsScript (bytes : List ℕ) (book : Declared) (verbs : List Verb) : Type 0 where
+-- what a script says: the text of its book, the book that this is, and what the lines behind it stand for
+pub record Script : Type 0 where
   pub text : List ℕ
+  pub book : Declared
+  pub verbs : List Verb
+
+-- the header, the line of the book, and lines that spell these verbs
+pub record IsScript (bytes : List ℕ) (s : Script) : Type 0 where
   pub lines : List (List ℕ)
-  pub parts : bytes ≡ bytes_of_lines (header ∷ book_line text ∷ lines)
-  pub second : IsLine (book_line text)
-  pub declares : book_of text ≡ Ok book
-  pub spelled : AllSpell verbs lines
+  pub parts : bytes ≡ bytes_of_lines (header ∷ book_line s.text ∷ lines)
+  pub second : IsLine (book_line s.text)
+  pub declares : book_of s.text ≡ Ok s.book
+  pub spelled : AllSpell s.verbs lines
+
+-- the events of its lines, in their order
+abbrev pub events_of : Script → List Event
+events_of s = expand_all s.verbs
 
 -- ---- the rules of a session
 

@@ -128,9 +128,17 @@ end_line events idle = codes "end events=" ++ decimal events ++ codes " idle=" +
 abbrev pub lines_text : List Line → List ℕ
 lines_text lines = flat_map (λ l. ended (line_text l)) lines
 
+-- what the events of a history say
+abbrev pub said_text : Rules → List Event → List ℕ
+said_text r events = lines_text (said_all r start events)
+
+-- the end line of a history
+abbrev pub end_text : Rules → List Event → List ℕ
+end_text r events = ended (end_line (length events) (idle_count r start events))
+
 -- the bytes that a history's run writes
 abbrev pub transcript : Rules → List Event → List ℕ
-transcript r events = lines_text (said_all r start events) ++ ended (end_line (length events) (idle_count r start events))
+transcript r events = said_text r events ++ end_text r events
 
 -- ---- totals
 
@@ -157,9 +165,13 @@ abbrev pub totals_line : Totals → List ℕ
 totals_line t =
     codes "totals rows=" ++ decimal t.rows ++ codes " trimmed=" ++ decimal t.trimmed ++ codes " texts=" ++ decimal t.texts ++ codes " notes=" ++ decimal t.notes
 
+-- the totals line of a history
+abbrev pub totals_text : Rules → List Event → List ℕ
+totals_text r events = ended (totals_line (totals_of (said_all r start events)))
+
 -- the transcript with a last line that tells its totals
 abbrev pub transcript_with_totals : Rules → List Event → List ℕ
-transcript_with_totals r events = transcript r events ++ ended (totals_line (totals_of (said_all r start events)))
+transcript_with_totals r events = transcript r events ++ totals_text r events
 
 -- ---- what is queued on a connection
 

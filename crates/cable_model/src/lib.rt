@@ -8,6 +8,7 @@ mod notes;
 mod pieces;
 mod plans;
 mod statuses;
+mod verb_names;
 mod verbs;
 
 pub use events::Event;
@@ -17,4 +18,5 @@ pub use notes::Note;
 pub use pieces::Piece;
 pub use plans::{Change, Closing, Plan, Task};
 pub use statuses::{BreakReason, Status};
+pub use verb_names::VerbName;
 pub use verbs::Verb;

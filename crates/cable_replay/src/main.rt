@@ -1,14 +1,16 @@
-//! Replays a session script: reads it from standard input and writes its transcript to standard output. With the word `--totals` a line
-//! stands behind it that tells how many rows were committed and trimmed, and how many texts and notes there are.
+//! Replays a session script: reads it from standard input line by line, and writes what its events say to standard output.
 //!
-//! It ends with the code of its status: 0 where all is written, 2 for other words, 3 for bytes that are no script, 7 where
-//! standard input failed, 8 where standard output failed, 9 for want of memory, 12 for more than 2^40 bytes.
+//! The words are none for the transcript, `--totals` for a line of totals behind it, `--print` for the script again with a line for each event,
+//! or `--make SEED COUNT` for the end line and the totals line of a made script.
+//!
+//! It ends with the code of its status. Of a refusal it prints `cable_replay: ` and the status's text to standard error.
 #![tactic(auto)]
 
 use cable_base::{StdSink, StdSource};
 use cable_model::Status;
 use node_world::World;
 use replay_cli::replay;
+use std::io::Write;
 use std::process::ExitCode;
 use std::{env, io};
 
@@ -38,6 +40,19 @@ fn run(rt: &HostRuntime) -> Status {
     status
 }
 
+/// Prints what is said of a refusal. A standard error that can't be written to is passed over.
+fn report(rt: &HostRuntime, status: &Status) {
+    let mut error = rt.stderr();
+    let _ = match status.text(rt.alloc()) {
+        Ok(text) => writeln!(error, "cable_replay: {}", text.as_str()),
+        Err(_) => writeln!(error, "cable_replay: out-of-memory"),
+    };
+}
+
 fn main(rt: HostRuntime) -> ExitCode {
-    ExitCode::from(run(&rt).code())
+    let status = run(&rt);
+    if status != Status::Ok {
+        report(&rt, &status);
+    }
+    ExitCode::from(status.code())
 }

@@ -15,12 +15,13 @@ use Rattle.cable_model.specs.Limits.{most_name, most_payload}
 use Rattle.cable_model.specs.declared.verbs.Verb.{Verb}
 use Rattle.cable_script.specs.declared.faults.LineFault.{LineFault}
 use Rattle.cable_script.specs.declared.faults.LineFault.TheVariants as fault
-use Rattle.cable_script.specs.declared.verb_names.VerbName.{VerbName}
-use Rattle.cable_script.specs.declared.verb_names.VerbName.TheVariants as name
+use Rattle.cable_model.specs.declared.verb_names.VerbName.{VerbName}
+use Rattle.cable_model.specs.declared.verb_names.VerbName.TheVariants as name
 use Rattle.cable_script.specs.Words.{first_word, after_word}
-use Rattle.cable_script.specs.VerbTable.{spelling, kinds_behind, BeginsWith, HasWords, HasNumbers}
+use Rattle.cable_model.specs.VerbTable.{spelling, kinds_behind, BeginsWith, HasWords, HasNumbers}
 use Rattle.cable_script.specs.Reading.{◌>>=◌, or_fault, verb_named, verb_behind, verb_in, verb_of}
-use Rattle.cable_script.specs.LineFaults.{NamesNoVerb, LacksWords, LacksNumber, Casts, CastsNoJson, CastsTooMuch, BreaksFirst}
+use Rattle.cable_model.specs.LineBreaks.{NamesNoVerb, LacksWords, LacksNumber, Casts, CastsNoJson, CastsTooMuch}
+use Rattle.cable_script.specs.LineFaults.{HasFault}
 use Rattle.cable_script.proofs.GrammarRead.{named_is, named_found, no_blank}
 use Rattle.cable_script.proofs.LineWords.{words_of, begins, begun, has_words, words_had}
 use Rattle.cable_script.proofs.VerbFaults.{all_pass, all_pass_Decides, are_short, cast_fault, last_of, faults_of, behind_faults}
@@ -116,7 +117,7 @@ casts_too_much line u c =
     ∙ ap (λ (b : Bool). cond b (cond (are_short c.channel (squeezed c.json)) None (Some fault.TooLarge)) (Some fault.BadJson)) c.reads
     ∙ ap (λ (b : Bool). cond {A = Option LineFault} b None (Some fault.TooLarge)) (one_long c.channel (squeezed c.json) c.long))
 
-pub answered : (line : List ℕ) (f : LineFault) → BreaksFirst f line → verb_of line ≡ Err f
+pub answered : (line : List ℕ) (f : LineFault) → HasFault f line → verb_of line ≡ Err f
 answered line fault.NotUtf8 b = no_utf8 line b
 answered line fault.UnknownVerb b = names_none line b.0 b.1
 answered line fault.BadWords b = lacks_words line b.0 b.1
@@ -128,22 +129,22 @@ answered line fault.OutOfMemory b = absurd b
 -- ---- what is answered is the rule that is broken first
 
 -- the fault of a line, where this fault is answered
-same : (line : List ℕ) (g f : LineFault) → Some g ≡ Some f → BreaksFirst g line → BreaksFirst f line
-same line g f e b = subst (λ (h : LineFault). BreaksFirst h line) (same_Some g f e) b
+same : (line : List ℕ) (g f : LineFault) → Some g ≡ Some f → HasFault g line → HasFault f line
+same line g f e b = subst (λ (h : LineFault). HasFault h line) (same_Some g f e) b
 
-cast_broken : (line channel json : List ℕ) (f : LineFault) → IsUtf8 line → Casts channel json line → cast_fault channel json ≡ Some f → BreaksFirst f line
+cast_broken : (line channel json : List ℕ) (f : LineFault) → IsUtf8 line → Casts channel json line → cast_fault channel json ≡ Some f → HasFault f line
 cast_broken line channel json f u casts e = by_json (is_some (read json)) refl e
   where
-    by_sizes : is_some (read json) ≡ true → (b : Bool) → are_short channel (squeezed json) ≡ b → cond {A = Option LineFault} b None (Some fault.TooLarge) ≡ Some f → BreaksFirst f line
+    by_sizes : is_some (read json) ≡ true → (b : Bool) → are_short channel (squeezed json) ≡ b → cond {A = Option LineFault} b None (Some fault.TooLarge) ≡ Some f → HasFault f line
     by_sizes reads true t e = absurd cc
     by_sizes reads false t e = same line fault.TooLarge f e (u, record { channel = channel; json = json; casts = casts; reads = reads; long = long_one channel (squeezed json) t })
 
-    by_json : (b : Bool) → is_some (read json) ≡ b → cond b (cond (are_short channel (squeezed json)) None (Some fault.TooLarge)) (Some fault.BadJson) ≡ Some f → BreaksFirst f line
+    by_json : (b : Bool) → is_some (read json) ≡ b → cond b (cond (are_short channel (squeezed json)) None (Some fault.TooLarge)) (Some fault.BadJson) ≡ Some f → HasFault f line
     by_json true t e = by_sizes t (are_short channel (squeezed json)) refl e
     by_json false t e = same line fault.BadJson f e (u, record { channel = channel; json = json; casts = casts; none = λ (r : is_some (read json) ≡ true). absurd cc })
 
 -- behind its numbers only a cast breaks a rule
-last_broken : (line : List ℕ) (k : VerbName) (words : List (List ℕ)) (f : LineFault) → IsUtf8 line → HasNumbers k words line → last_of k words ≡ Some f → BreaksFirst f line
+last_broken : (line : List ℕ) (k : VerbName) (words : List (List ℕ)) (f : LineFault) → IsUtf8 line → HasNumbers k words line → last_of k words ≡ Some f → HasFault f line
 last_broken line name.Cast (moment ∷ channel ∷ json ∷ []) f u h e = cast_broken line channel json f u (moment, h) e
 last_broken line name.Cast [] f u h e = absurd cc
 last_broken line name.Cast (moment ∷ []) f u h e = absurd cc
@@ -167,7 +168,7 @@ last_broken line name.Beat words f u h e = absurd cc
 last_broken line name.Fault words f u h e = absurd cc
 
 -- a line that begins with a verb
-verb_broken : (line : List ℕ) (k : VerbName) (f : LineFault) → IsUtf8 line → first_word line ≡ spelling k → faults_of k (words_at k line) ≡ Some f → BreaksFirst f line
+verb_broken : (line : List ℕ) (k : VerbName) (f : LineFault) → IsUtf8 line → first_word line ≡ spelling k → faults_of k (words_at k line) ≡ Some f → HasFault f line
 verb_broken line k f u first e = by_words (words_at k line) refl e
   where
     begins_so : BeginsWith line (spelling k)
@@ -177,15 +178,15 @@ verb_broken line k f u first e = by_words (words_at k line) refl e
     not_had words none h = let found : words_at k line ≡ Some words = (words_had k words line (no_blank k) h).1 in absurd cc
 
     by_numbers : (words : List (List ℕ)) → HasWords k words line → (b : Bool) → all_pass (kinds_behind k) words ≡ b
-        → cond b (last_of k words) (Some fault.BadNumber) ≡ Some f → BreaksFirst f line
+        → cond b (last_of k words) (Some fault.BadNumber) ≡ Some f → HasFault f line
     by_numbers words h true t e = last_broken line k words f u (record { has = h; in_range = (all_pass_Decides (kinds_behind k) words).0 t }) e
     by_numbers words h false t e = same line fault.BadNumber f e (u, record { verb = k; words = words; has = h; none = not_from_Decides _ (all_pass_Decides (kinds_behind k) words) t })
 
-    by_words : (o : Option (List (List ℕ))) → words_at k line ≡ o → faults_of k o ≡ Some f → BreaksFirst f line
+    by_words : (o : Option (List (List ℕ))) → words_at k line ≡ o → faults_of k o ≡ Some f → HasFault f line
     by_words None w e = same line fault.BadWords f e (u, record { verb = k; first = begins_so; none = λ words. not_had words w })
     by_words (Some words) w e = by_numbers words (has_words k words line first w) (all_pass (kinds_behind k) words) refl e
 
-text_broken : (line : List ℕ) (f : LineFault) → IsUtf8 line → verb_of line ≡ Err f → BreaksFirst f line
+text_broken : (line : List ℕ) (f : LineFault) → IsUtf8 line → verb_of line ≡ Err f → HasFault f line
 text_broken line f u e = by_name (verb_named (first_word line)) refl
   where
     errs : result_err (verb_of line) ≡ Some f
@@ -194,16 +195,16 @@ text_broken line f u e = by_name (verb_named (first_word line)) refl
     unnamed : (k : VerbName) → verb_named (first_word line) ≡ None → ¬ (first_word line ≡ spelling k)
     unnamed k none is = let found : verb_named (first_word line) ≡ Some k = ap verb_named is ∙ named_found k in absurd cc
 
-    by_name : (o : Option VerbName) → verb_named (first_word line) ≡ o → BreaksFirst f line
+    by_name : (o : Option VerbName) → verb_named (first_word line) ≡ o → HasFault f line
     by_name None n =
         same line fault.UnknownVerb f (sym (ap (λ (r : Result Verb LineFault). result_err r) (text_read line u ∙ ap (behind_named line) n)) ∙ errs)
         (u, record { word = first_word line; first = begins line; none = λ k is. unnamed k n is })
     by_name (Some k) n = let first = named_is (first_word line) k n in verb_broken line k f u first (sym (line_faults line k u first) ∙ errs)
 
-pub broken : (line : List ℕ) (f : LineFault) → verb_of line ≡ Err f → BreaksFirst f line
+pub broken : (line : List ℕ) (f : LineFault) → verb_of line ≡ Err f → HasFault f line
 broken line f e = by_test (is_utf8 line) refl
   where
-    by_test : (b : Bool) → is_utf8 line ≡ b → BreaksFirst f line
+    by_test : (b : Bool) → is_utf8 line ≡ b → HasFault f line
     by_test true t = text_broken line f (IsUtf8-from_is_utf8 line t) e
     by_test false t =
         let none : ¬ IsUtf8 line = λ u. absurd (let r : is_utf8 line ≡ true = is_utf8-from_IsUtf8 line u in cc) in

@@ -10,10 +10,10 @@ use Rattle.cable_model.specs.declared.verbs.Verb.{Verb}
 use Rattle.cable_model.specs.declared.verbs.Verb.TheVariants as verb
 use Rattle.cable_model.specs.Script.{Spells}
 use Rattle.cable_script.specs.declared.faults.LineFault.TheVariants as fault
-use Rattle.cable_script.specs.declared.verb_names.VerbName.{VerbName}
-use Rattle.cable_script.specs.declared.verb_names.VerbName.TheVariants as name
+use Rattle.cable_model.specs.declared.verb_names.VerbName.{VerbName}
+use Rattle.cable_model.specs.declared.verb_names.VerbName.TheVariants as name
 use Rattle.cable_script.specs.Words.{first_word, after_word}
-use Rattle.cable_script.specs.VerbTable.{spelling, all_verbs}
+use Rattle.cable_model.specs.VerbTable.{spelling, all_verbs}
 use Rattle.cable_script.specs.Reading.{verb_named, verb_with, verb_alone, verb_behind, verb_in, text_of, verb_of}
 use Rattle.cable_script.proofs.WordsRead.{word_is, word_found, word_alone}
 use Rattle.cable_script.proofs.NumbersRead.{step_is, step_of, same_Ok, given_is, given_of}

@@ -1,9 +1,16 @@
 pub mod Cuts
+pub mod Feeds
+pub mod FirstBreaks
 pub mod FirstFaults
 pub mod GrammarRead
 pub mod LineWords
 pub mod LinesRead
 pub mod VerbFaults
 pub mod NumbersRead
+pub mod Places
+pub mod PrintedRead
+pub mod PrintedScripts
+pub mod Refusals
+pub mod ShorterLines
 pub mod Spellings
 pub mod WordsRead

@@ -7,9 +7,9 @@ use Rattle.std.proofs.lemmas.Bool.{and_parts}
 use Rattle.std.proofs.lemmas.List.Folds.{list_any-append}
 use Rattle.std.proofs.lemmas.Option.{same_Some}
 use Rattle.cable_model.specs.Script.{spaced, IsWord}
-use Rattle.cable_script.specs.declared.verb_names.VerbName.{VerbName}
-use Rattle.cable_script.specs.declared.verb_names.VerbName.TheVariants as name
-use Rattle.cable_script.specs.VerbTable.{Kind, Node, Connection, Moment, Batch, Puts, Word, Rest, spelling, kinds_behind, Fills, Each, BeginsWith, HasWords}
+use Rattle.cable_model.specs.declared.verb_names.VerbName.{VerbName}
+use Rattle.cable_model.specs.declared.verb_names.VerbName.TheVariants as name
+use Rattle.cable_model.specs.VerbTable.{Kind, Node, Connection, Moment, Batch, Puts, Word, Rest, spelling, kinds_behind, Fills, Each, BeginsWith, HasWords}
 use Rattle.cable_script.specs.Words.{◌>>=◌, is_blank, first_word, after_word, next_word, one_word, two_words, three_words, two_words_and_rest}
 use Rattle.cable_script.proofs.Cuts.{either_false, none_before}
 use Rattle.cable_script.proofs.WordsRead.{bind_is, bind_of, word_is, word_found, word_alone, next_is, one_is, next_found, one_found}

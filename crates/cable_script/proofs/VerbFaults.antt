@@ -17,9 +17,9 @@ use Rattle.cable_model.specs.declared.verbs.Verb.{Verb}
 use Rattle.cable_model.specs.declared.verbs.Verb.TheVariants as verb
 use Rattle.cable_script.specs.declared.faults.LineFault.{LineFault}
 use Rattle.cable_script.specs.declared.faults.LineFault.TheVariants as fault
-use Rattle.cable_script.specs.declared.verb_names.VerbName.{VerbName}
-use Rattle.cable_script.specs.declared.verb_names.VerbName.TheVariants as name
-use Rattle.cable_script.specs.VerbTable.{Kind, Node, Connection, Moment, Batch, Puts, Word, Rest, kinds_behind, IsInRange, Each}
+use Rattle.cable_model.specs.declared.verb_names.VerbName.{VerbName}
+use Rattle.cable_model.specs.declared.verb_names.VerbName.TheVariants as name
+use Rattle.cable_model.specs.VerbTable.{Kind, Node, Connection, Moment, Batch, Puts, Word, Rest, kinds_behind, IsInRange, Each}
 use Rattle.cable_script.specs.Words.{next_word, one_word, two_words, three_words, two_words_and_rest, number_in}
 use Rattle.cable_script.specs.Reading.{◌>>=◌, or_fault, node_in, conn_in, millis_in, node_alone, conn_alone, boot_in, open_in, text_in, drop_in, stop_in, take_in, put_in, finish_in, work_in, payload_in, cast_of, cast_in, trim_in, ask_in, read_in, deliver_in, poll_in, beat_in, verb_with, verb_alone, verb_behind}
 use Rattle.cable_script.proofs.Spellings.{number_is, number_of_decimal}

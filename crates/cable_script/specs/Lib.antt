@@ -1,4 +1,4 @@
 pub mod LineFaults
+pub mod Prints
 pub mod Reading
-pub mod VerbTable
 pub mod Words

@@ -13,9 +13,9 @@ use Rattle.cable_model.specs.declared.verbs.Verb.{Verb}
 use Rattle.cable_model.specs.declared.verbs.Verb.TheVariants as verb
 use Rattle.cable_script.specs.declared.faults.LineFault.{LineFault}
 use Rattle.cable_script.specs.declared.faults.LineFault.TheVariants as fault
-use Rattle.cable_script.specs.declared.verb_names.VerbName.{VerbName}
-use Rattle.cable_script.specs.declared.verb_names.VerbName.TheVariants as name
-use Rattle.cable_script.specs.VerbTable.{spelling, all_verbs}
+use Rattle.cable_model.specs.declared.verb_names.VerbName.{VerbName}
+use Rattle.cable_model.specs.declared.verb_names.VerbName.TheVariants as name
+use Rattle.cable_model.specs.VerbTable.{spelling, all_verbs}
 use Rattle.cable_script.specs.Words.{first_word, after_word, next_word, one_word, two_words, three_words, two_words_and_rest, number_in}
 
 -- what is there, or else this fault

@@ -1,4 +1,5 @@
-//! The lines of a session script: which verb a line stands for, and which events a verb stands for.
+//! The lines of a session script, both ways: which verb a line stands for, which events a verb stands for, and which line an event has. And
+//! the lines of the transcript.
 #![tactic(auto)]
 
 mod connections;
@@ -7,6 +8,7 @@ mod faults;
 mod laws;
 mod nodes;
 mod numbers;
+mod printing;
 mod reading;
 mod tables;
 mod verb_names;
@@ -14,6 +16,11 @@ mod words;
 
 pub use expanding::expand;
 pub use faults::LineFault;
-pub use laws::{lines_are_read, lines_have_their_first_fault};
+pub use laws::{
+    first_breaks_are_one, lines_are_read, lines_have_their_first_fault, printed_lines_are_read,
+    printed_scripts_say_the_same,
+};
+pub use numbers::number_in;
+pub use printing::{print_event, print_line};
 pub use reading::{read_line, utf8_text};
 pub use words::cut_word;

@@ -39,7 +39,7 @@ fn parsed(word: &str) -> Option<u64>
 }
 
 /// The number that a word spells in decimal digits without a leading zero, where it is from `low` to `high`.
-fn number_in(low: u64, high: u64, word: &str) -> Option<u64>
+pub fn number_in(low: u64, high: u64, word: &str) -> Option<u64>
     ensures { result ≡ number_in low high word.now }
 {
     if !spells_number(word) {

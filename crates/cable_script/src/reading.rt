@@ -5,9 +5,9 @@ use crate::connections::{drop_in, finish_in, open_in, put_in, take_in, text_in, 
 use crate::faults::LineFault;
 use crate::nodes::{ask_in, beat_in, boot_in, deliver_in, poll_in, read_in, stop_in};
 use crate::tables::{cast_in, trim_in};
-use crate::verb_names::{VerbName, verb_named};
+use crate::verb_names::verb_named;
 use crate::words::cut_word;
-use cable_model::{Event, Verb};
+use cable_model::{Event, Verb, VerbName};
 use std::alloc::Global;
 
 /// The verb with this text behind its blank.

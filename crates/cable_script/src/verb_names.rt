@@ -1,27 +1,7 @@
 ghost use Rattle.std.specs.Prelude.{◌≡◌};
 ghost use Rattle.cable_script.specs.Reading.{verb_named};
 
-/// The first word of a line.
-#[derive(Clone, Copy, Debug, PartialEq, Eq)]
-pub enum VerbName {
-    Boot,
-    Open,
-    In,
-    Drop,
-    Stop,
-    Take,
-    Put,
-    Finish,
-    Work,
-    Cast,
-    Trim,
-    Ask,
-    Read,
-    Deliver,
-    Poll,
-    Beat,
-    Fault,
-}
+use cable_model::VerbName;
 
 /// The verb that is written so.
 pub fn verb_named(word: &str) -> Option<VerbName>

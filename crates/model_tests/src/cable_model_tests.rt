@@ -3,9 +3,10 @@ use cable_base::{
 };
 use cable_json::Command;
 use cable_model::{
-    Beside, Change, Entry, Event, Line, Note, Origin, Piece, Plan, ReadNote, Status, TableEntry,
-    Task, Verb,
+    Beside, BreakReason, Change, Entry, Event, Line, Note, Origin, Piece, Plan, ReadNote, Status,
+    TableEntry, Task, Verb,
 };
+use channel_book::BookFault;
 use std::alloc::Global;
 use std::test::Fail;
 
@@ -181,4 +182,80 @@ fn a_task_is_copied(rt: HostRuntime) -> Result<(), Fail> {
 #[test]
 fn too_much_has_the_code_12(rt: HostRuntime) {
     assert_eq!(rt; Status::TooMuch.code(), 12);
+}
+
+/// The status is printed as this text, and the copy is equal to it.
+fn is_told(alloc: Global, status: &Status, text: &str) -> Result<bool, OutOfMemory> {
+    Ok(status.text(alloc)?.as_str() == text && status.copy(alloc)? == *status)
+}
+
+#[test]
+fn statuses_are_copied_and_told(rt: HostRuntime) -> Result<(), Fail> {
+    let alloc = rt.alloc();
+    let statuses = [
+        (Status::Ok, ""),
+        (Status::Usage, "usage"),
+        (Status::Unended, "unended"),
+        (Status::TooLong { line: 3 }, "too-long line 3"),
+        (Status::ReadFault, "read-fault"),
+        (Status::WriteFault, "write-fault"),
+        (Status::OutOfMemory, "out-of-memory"),
+        (Status::StoreFault, "store-fault"),
+        (Status::NetFault, "net-fault"),
+        (Status::TooMuch, "too-much"),
+    ];
+    for (status, text) in &statuses {
+        assert!(rt; is_told(alloc, status, text)?, "{text}");
+    }
+    Ok(())
+}
+
+#[test]
+fn a_break_is_told_with_its_line_and_reason(rt: HostRuntime) -> Result<(), Fail> {
+    let alloc = rt.alloc();
+    let breaks = [
+        (1, BreakReason::NoHeader, "bad-script line 1 no-header"),
+        (2, BreakReason::NoBook, "bad-script line 2 no-book"),
+        (3, BreakReason::NotUtf8, "bad-script line 3 not-utf8"),
+        (
+            4,
+            BreakReason::UnknownVerb,
+            "bad-script line 4 unknown-verb",
+        ),
+        (5, BreakReason::BadWords, "bad-script line 5 bad-words"),
+        (6, BreakReason::BadNumber, "bad-script line 6 bad-number"),
+        (7, BreakReason::BadJson, "bad-script line 7 bad-json"),
+        (8, BreakReason::TooLarge, "bad-script line 8 too-large"),
+    ];
+    for (line, reason, text) in breaks {
+        assert!(rt;
+            is_told(alloc, &Status::BadScript { line, reason }, text)?,
+            "{text}"
+        );
+    }
+    Ok(())
+}
+
+#[test]
+fn a_book_is_told_with_its_fault(rt: HostRuntime) -> Result<(), Fail> {
+    let alloc = rt.alloc();
+    let path = Text::new(alloc, "/channels")?;
+    let whole = Text::new(alloc, "")?;
+    let template = Text::new(alloc, "action_cable/x")?;
+    let name = Text::new(alloc, "Room")?;
+    let faults = [
+        (BookFault::BadJson, "bad-book bad-json"),
+        (BookFault::BadShape { path }, "bad-book bad-shape /channels"),
+        (BookFault::BadShape { path: whole }, "bad-book bad-shape "),
+        (
+            BookFault::ReservedStream { template },
+            "bad-book reserved-stream",
+        ),
+        (BookFault::RepeatedName { name }, "bad-book repeated-name"),
+        (BookFault::OutOfMemory, "bad-book out-of-memory"),
+    ];
+    for (fault, text) in faults {
+        assert!(rt; is_told(alloc, &Status::BadBook { fault }, text)?, "{text}");
+    }
+    Ok(())
 }

@@ -1,6 +1,6 @@
-use cable_base::{ConnNo, Millis, Name, NodeNo, OutOfMemory, Text};
-use cable_model::{Event, Verb};
-use cable_script::{LineFault, expand, read_line};
+use cable_base::{ConnNo, Millis, Name, NodeNo, OutOfMemory, RowId, Text};
+use cable_model::{Event, Line, Note, Verb};
+use cable_script::{LineFault, expand, print_event, print_line, read_line};
 use std::alloc::{AllocError, Global};
 use std::test::Fail;
 
@@ -243,5 +243,86 @@ fn large_casts_are_refused(rt: HostRuntime) -> Result<(), Fail> {
     let mut bad_json = cast(alloc, 1_025, 2)?;
     bad_json.push('x')?;
     assert!(rt; all_break(alloc, LineFault::BadJson, &[bad_json.as_str()]));
+    Ok(())
+}
+
+/// Whether each of these events has this line, and is read back from it.
+fn all_print(alloc: Global, events: &[(Event, &str)]) -> Result<bool, OutOfMemory> {
+    for (event, line) in events {
+        let printed = print_event(alloc, event)?;
+        let read = read_line(alloc, printed.as_str().as_bytes());
+        let event = event.copy(alloc)?;
+        if printed.as_str() != *line || read != Ok(Verb::One { event }) {
+            return Ok(false);
+        }
+    }
+    Ok(true)
+}
+
+#[test]
+fn events_are_printed_and_read_back(rt: HostRuntime) -> Result<(), Fail> {
+    let alloc = rt.alloc();
+    let (node, conn, at, now) = (NodeNo(1), ConnNo(7), Millis(5), Millis(3000));
+    let nodes = [
+        (Event::Boot { node }, "boot 1"),
+        (Event::Stop { node }, "stop 1"),
+        (Event::Ask { node }, "ask 1"),
+        (Event::Read { node }, "read 1"),
+        (Event::Deliver { node }, "deliver 1"),
+        (Event::Beat { node, now }, "beat 1 3000"),
+        (Event::Fault, "fault"),
+    ];
+    assert!(rt; all_print(alloc, &nodes)?);
+
+    let token = Text::new(alloc, "t1")?;
+    let text = Text::new(alloc, "{}")?;
+    let conns = [
+        (Event::Open { node, conn, token }, "open 1 7 t1"),
+        (Event::In { conn, text }, "in 7 {}"),
+        (Event::Drop { conn }, "drop 7"),
+        (Event::Take { conn }, "take 7"),
+        (Event::Put { conn, at }, "put 7 5"),
+        (Event::Finish { conn }, "finish 7"),
+    ];
+    assert!(rt; all_print(alloc, &conns)?);
+
+    let cast = Event::Cast {
+        at,
+        channel: Name::new(alloc, "room_1")?,
+        payload: Text::new(alloc, "{\"n\":1}")?,
+    };
+    let trim = Event::Trim {
+        now: Millis(9),
+        retention: Millis(1),
+        batch: 100,
+    };
+    let table = [(cast, "cast 5 room_1 {\"n\":1}"), (trim, "trim 9 1 100")];
+    assert!(rt; all_print(alloc, &table)?);
+    Ok(())
+}
+
+#[test]
+fn lines_of_the_transcript_are_printed(rt: HostRuntime) -> Result<(), Fail> {
+    let alloc = rt.alloc();
+    let conn = ConnNo(7);
+    let text = Text::new(alloc, "{\"type\":\"welcome\"}")?;
+    let busy = Line::Note {
+        conn: Some(conn),
+        note: Note::Busy,
+    };
+    let refused = Line::Note {
+        conn: None,
+        note: Note::StoreRefused,
+    };
+    let lines = [
+        (Line::Text { conn, text }, "7 {\"type\":\"welcome\"}"),
+        (busy, "7 ! busy"),
+        (refused, "- ! store-refused"),
+        (Line::Row { id: RowId(3) }, "- row 3"),
+        (Line::Trimmed { count: 2 }, "- trimmed 2"),
+    ];
+    for (line, text) in &lines {
+        assert!(rt; print_line(alloc, line)?.as_str() == *text, "{text}");
+    }
     Ok(())
 }

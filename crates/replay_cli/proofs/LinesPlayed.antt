@@ -1,5 +1,5 @@
--- The events of a line are those that a world steps, and they are few.
-use Rattle.std.proofs.Common.{◌≡◌, ℕ, zero, suc, ◌+◌, ◌≤◌, ◌<◌, List, [], ◌∷◌, ◌++◌, length, refl, sym, subst, arith}
+-- The events of a line are those that a world steps.
+use Rattle.std.proofs.Common.{ℕ, zero, suc, ◌≤◌, ◌<◌, List, [], ◌∷◌, ◌++◌, sym, subst, arith}
 use Rattle.std.specs.Prelude.{replicate, IsSome}
 use Rattle.std.specs.List.{All}
 use Rattle.std.proofs.lemmas.List.Elements.{All-nil, All-cons}
@@ -9,11 +9,10 @@ use Rattle.cable_model.specs.declared.events.Event.{Event}
 use Rattle.cable_model.specs.declared.events.Event.TheVariants as event
 use Rattle.cable_model.specs.declared.verbs.Verb.{Verb}
 use Rattle.cable_model.specs.declared.verbs.Verb.TheVariants.{One, Work, Poll}
-use Rattle.cable_model.specs.Script.{expand, IsCast, SpellsEvent, Spells, AllSpell}
+use Rattle.cable_model.specs.Script.{expand, IsCast, SpellsEvent, Spells}
 use Rattle.table_core.specs.Keepers.{moment_limit}
 use Rattle.table_core.specs.Tables.{IsWithinLimits}
 use Rattle.node_world.specs.Steps.{IsPlayed}
-use Rattle.replay_cli.specs.Running.{IsPlayedLine}
 
 -- squeezing keeps what a text reads to
 abbrev pub Squeezes : Type 0
@@ -47,34 +46,18 @@ event_played squeezes (event.Deliver node) line s = tt
 event_played squeezes (event.Beat node now) line s = tt
 event_played squeezes event.Fault line s = tt
 
-all_one : (e : Event) → IsPlayed e → All IsPlayed (e ∷ [])
+pub all_one : (e : Event) → IsPlayed e → All IsPlayed (e ∷ [])
 all_one e p = All-cons IsPlayed e [] p (All-nil IsPlayed)
 
-puts_played : (n : ℕ) (e f : Event) → IsPlayed e → IsPlayed f → All IsPlayed (replicate n e ++ f ∷ [])
+pub puts_played : (n : ℕ) (e f : Event) → IsPlayed e → IsPlayed f → All IsPlayed (replicate n e ++ f ∷ [])
 puts_played zero e f p q = all_one f q
 puts_played (suc n) e f p q = All-cons IsPlayed e (replicate n e ++ f ∷ []) p (puts_played n e f p q)
 
-length-puts : (n : ℕ) (e f : Event) → length (replicate n e ++ f ∷ []) ≡ n + 1
-length-puts zero e f = refl
-length-puts (suc n) e f = omega (arith, length-puts n e f)
-
--- a work has at most 1,000 puts
-line_few : (v : Verb) (line : List ℕ) → Spells v line → length (expand v) ≤ 1002
-line_few (One e) line s = omega arith
-line_few (Work conn at puts) line s = omega (arith, length-puts puts (event.Put conn at) (event.Finish conn), s.2.1)
-line_few (Poll node) line s = omega arith
-
-line_each : Squeezes → (v : Verb) (line : List ℕ) → Spells v line → All IsPlayed (expand v)
+-- the events of a line that spells a verb are played
+pub line_each : Squeezes → (v : Verb) (line : List ℕ) → Spells v line → All IsPlayed (expand v)
 line_each squeezes (One e) line s = all_one e (event_played squeezes e line s)
 line_each squeezes (Work conn at puts) line s =
     All-cons IsPlayed (event.Take conn) (replicate puts (event.Put conn at) ++ event.Finish conn ∷ []) tt
     (puts_played puts (event.Put conn at) (event.Finish conn) (early-enough at.0 s.1.1) tt)
 line_each squeezes (Poll node) line s =
     All-cons IsPlayed (event.Ask node) (event.Read node ∷ event.Deliver node ∷ []) tt (All-cons IsPlayed (event.Read node) (event.Deliver node ∷ []) tt (all_one (event.Deliver node) tt))
-
--- lines that spell verbs are played
-pub all_played : Squeezes → (vs : List Verb) (lines : List (List ℕ)) → AllSpell vs lines → All IsPlayedLine vs
-all_played squeezes [] lines s = All-nil IsPlayedLine
-all_played squeezes (v ∷ vs) [] s = absurd s
-all_played squeezes (v ∷ vs) (line ∷ lines) s =
-    All-cons IsPlayedLine v vs (record { few = line_few v line s.1; each = line_each squeezes v line s.1 }) (all_played squeezes vs lines s.2)

@@ -1,5 +1,5 @@
 -- What pieces that were written one behind the other come to.
-use Rattle.std.proofs.Common.{◌≡◌, ℕ, ◌+◌, ◌-◌, ◌≤◌, List, length, take, drop, take-add, take-append-drop, Option, None, Some, Err, refl, ◌∙◌}
+use Rattle.std.proofs.Common.{◌≡◌, ℕ, ◌+◌, ◌-◌, ◌≤◌, List, length, take, drop, take-add, take-append-drop, Option, None, Some, Err, refl, ◌∙◌, arith}
 use Rattle.std.proofs.lemmas.List.{take_rest}
 use Rattle.std.specs.Result.{IsErrOf}
 use Rattle.std.specs.Io.KnownBytes.{Appends, Keeps}
@@ -7,7 +7,6 @@ use Rattle.std.proofs.KnownBytes.{Appends-trans}
 use Rattle.cable_base.specs.declared.faults.Trouble.{Trouble}
 use Rattle.cable_base.specs.declared.faults.Trouble.TheVariants as trouble
 use Rattle.cable_base.specs.Causes.{Rose}
-use Rattle.replay_cli.proofs.WholeInputs.{Rose-later}
 use Rattle.replay_cli.specs.Outputs.{Writes}
 
 pub write_step : (t0 t1 t2 : Option (List ℕ)) (bytes : List ℕ) (at n : ℕ) → Appends t0 t1 (take at bytes) → Appends t1 t2 (take n (take (length bytes - at) (drop at bytes))) → Appends t0 t2 (take (at + n) bytes)
@@ -26,7 +25,7 @@ pub write_refused : (t0 t1 t2 : Option (List ℕ)) (f0 f1 f2 : ℕ) (bytes : Lis
     → Appends t0 t1 (take at bytes) → Keeps t1 t2 → f0 ≤ f1 → (f ≡ trouble.Failed → Rose f1 f2)
     → Writes (record { taken = t0; taken_behind = t2; faults = f0; faults_behind = f2 }) bytes (Err f)
 write_refused t0 t1 t2 f0 f1 f2 bytes at trouble.Failed p q le rose =
-    (take at bytes, Appends-kept t0 t1 t2 (take at bytes) p q, (drop at bytes, take-append-drop at bytes), Rose-later f0 f1 f2 le (rose refl))
+    (take at bytes, Appends-kept t0 t1 t2 (take at bytes) p q, (drop at bytes, take-append-drop at bytes), let rises : Rose f1 f2 = rose refl in omega arith)
 write_refused t0 t1 t2 f0 f1 f2 bytes at trouble.OutOfMemory p q le rose =
     (take at bytes, Appends-kept t0 t1 t2 (take at bytes) p q, (drop at bytes, take-append-drop at bytes))
 

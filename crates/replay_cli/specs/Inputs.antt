@@ -1,9 +1,8 @@
--- What reading all of a source met.
-use Rattle.std.specs.Prelude.{◌≡◌, ℕ, ◌+◌, ◌^◌, ◌<◌, ◌≤◌, Bool, true, false, List, [], ◌++◌, length, Option, Result, Ok, Err}
+-- What a call took from the source.
+use Rattle.std.specs.Prelude.{◌≡◌, ℕ, ◌≤◌, List, length, Option}
 use Rattle.std.specs.Io.KnownBytes.{Consumes, IsAtEnd}
 use Rattle.cable_base.specs.Causes.{Rose}
-use Rattle.replay_cli.specs.declared.inputs.Unfinished.{Unfinished}
-use Rattle.replay_cli.specs.declared.inputs.Unfinished.TheVariants as unfinished
+use Rattle.cable_model.specs.Limits.{most_script}
 
 -- the source before and behind a call: what is left, its counts of ends and of faults
 pub record Reading : Type 0 where
@@ -18,24 +17,19 @@ pub record Reading : Type 0 where
 abbrev pub Gave : Reading → List ℕ → Type 0
 Gave r given = Consumes r.left r.left_behind given
 
--- the source gave these bytes, at most 2^40 of them, and was read to its end
-pub record GaveAll (r : Reading) (given : List ℕ) : Type 0 where
+-- the source wasn't asked
+pub record WasNotRead (r : Reading) : Type 0 where
+  pub left : r.left_behind ≡ r.left
+  pub ends : r.ends_behind ≡ r.ends
+  pub faults : r.faults_behind ≡ r.faults
+
+-- it gave these bytes, at most 2^40 of them
+pub record GaveFew (r : Reading) (given : List ℕ) : Type 0 where
   pub gave : Gave r given
+  pub few : length given ≤ most_script
+
+-- and was read to its end
+pub record GaveAll (r : Reading) (given : List ℕ) : Type 0 where
+  pub gave : GaveFew r given
   pub ended : Rose r.ends r.ends_behind
   pub nothing_left : IsAtEnd r.left_behind
-  pub few : length given ≤ 2 ^ 40
-
--- one piece was read behind the old text
-abbrev pub ReadsMore : Reading → (old new : List ℕ) → Result Bool Unfinished → Type 0
-ReadsMore r old new (Ok true) = (piece : List ℕ) × Gave r piece × (new ≡ old ++ piece) × (0 < length piece) × (length new ≤ 2 ^ 40)
-ReadsMore r old new (Ok false) = Gave r [] × (new ≡ old) × Rose r.ends r.ends_behind × IsAtEnd r.left_behind
-ReadsMore r old new (Err unfinished.Failed) = Gave r [] × (new ≡ old) × Rose r.faults r.faults_behind
-ReadsMore r old new (Err unfinished.TooMuch) = (piece : List ℕ) × Gave r piece × (2 ^ 40 < length old + length piece)
-ReadsMore r old new (Err unfinished.OutOfMemory) = (piece : List ℕ) × Gave r piece
-
--- all was read, and is the text
-abbrev pub ReadsAll : Reading → (text : List ℕ) → Result (Unit {0}) Unfinished → Type 0
-ReadsAll r text (Ok u) = GaveAll r text
-ReadsAll r text (Err unfinished.Failed) = Gave r text × (length text ≤ 2 ^ 40) × Rose r.faults r.faults_behind
-ReadsAll r text (Err unfinished.TooMuch) = (given : List ℕ) × Gave r given × (2 ^ 40 < length given)
-ReadsAll r text (Err unfinished.OutOfMemory) = (given : List ℕ) × Gave r given

@@ -1,7 +1,10 @@
+pub mod Begun
 pub mod Inputs
+pub mod Made
+pub mod MadeRuns
 pub mod Modes
 pub mod Outputs
 pub mod Reading
 pub mod Replay
 pub mod Running
-pub mod Scripts
+pub mod Stages

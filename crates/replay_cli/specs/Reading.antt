@@ -1,80 +1,86 @@
--- How a script is read: line by line, from its front. That this reads exactly the scripts is the law `scripts_are_read`.
-use Rattle.std.specs.Prelude.{◌≡◌, ◌==◌, ⊤, ℕ, Bool, ◌&&◌, nat_le, nat_lt, List, [], ◌∷◌, length, codes, Option, Some, None, Result, Ok, Err, if◌then◌else◌, bytes_eq}
-use Rattle.std.specs.List.{slice_split, before_first, after_first, position_or_len}
-use Rattle.std.specs.Result.{result_ok}
-use Rattle.std.specs.Str.{is_utf8}
-use Rattle.channel_book.specs.Shapes.{Declared}
-use Rattle.channel_book.specs.Books.{book_of}
-use Rattle.cable_model.specs.declared.verbs.Verb.{Verb}
-use Rattle.cable_model.specs.Script.{header}
-use Rattle.cable_script.specs.Words.{◌>>=◌, first_word, after_word}
-use Rattle.cable_script.specs.Reading.{verb_of}
-use Rattle.replay_cli.specs.declared.scripts.Unread.{Unread}
-use Rattle.replay_cli.specs.declared.scripts.Unread.TheVariants as unread
-
--- reading gave, seen by view, what is expected, unless memory ran out
-abbrev pub Fails : {Y : Type 0} → Unread → Option Y → Type 0
-Fails unread.NoScript expected = expected ≡ None
-Fails unread.OutOfMemory expected = ⊤
-
-abbrev pub Gives : {X Y : Type 0} → (X → Y) → Result X Unread → Option Y → Type 0
-Gives view (Ok x) expected = expected ≡ Some (view x)
-Gives view (Err f) expected = Fails f expected
-
--- ---- a line
-
--- a line's text: UTF-8 of at most 1,200,000 bytes
-abbrev pub line_text : List ℕ → Option (List ℕ)
-line_text line = if nat_le (length line) 1200000 && is_utf8 line then Some line else None
-
--- a line of at most 1,200,000 bytes
-abbrev pub short_line : List ℕ → Option (List ℕ)
-short_line line = if nat_le (length line) 1200000 then Some line else None
-
--- the verb of such a line
-abbrev pub short_verb_of : List ℕ → Option Verb
-short_verb_of line = short_line line >>= λ short. result_ok (verb_of short)
-
--- the verbs of what stands between line feeds. Behind the last one stands nothing
-abbrev pub verbs_of : List (List ℕ) → Option (List Verb)
-verbs_of [] = None
-verbs_of (line ∷ []) = if length line == 0 then Some [] else None
-verbs_of (line ∷ next ∷ parts) = short_verb_of line >>= λ verb. (verbs_of (next ∷ parts) >>= λ verbs. Some (verb ∷ verbs))
-
--- ---- the script
-
--- the book of the second line's text
-abbrev pub book_in : List ℕ → Option Declared
-book_in line = after_word line >>= λ text. (if bytes_eq (first_word line) (codes "book") then result_ok (book_of text) else None)
+-- A script that is worked while its bytes come.
+use Rattle.std.specs.Prelude.{◌≡◌, ◌⊎◌, ℕ, ◌<◌, ◌≤◌, Bool, ◌==◌, List, [], ◌++◌, length, Result, Ok, Err}
+use Rattle.cable_base.specs.Causes.{Rose}
+use Rattle.cable_model.specs.declared.statuses.Status.{Status}
+use Rattle.cable_model.specs.declared.statuses.Status.TheVariants as status
+use Rattle.cable_model.specs.Breaks.{GoodLines, Splits, IsBegun, BreaksIn, BreaksAtEnd}
+use Rattle.cable_model.specs.Breaks.GoodLines.{Session}
+use Rattle.cable_model.specs.Limits.{most_script}
+use Rattle.cable_model.specs.Script.{Script, IsScript}
+use Rattle.replay_cli.specs.declared.modes.Mode.{Mode}
+use Rattle.replay_cli.specs.declared.replaying.Replaying.{Replaying}
+use Rattle.replay_cli.specs.Inputs.{Reading, Gave, GaveFew, GaveAll}
+use Rattle.replay_cli.specs.Modes.{written, output_of}
+use Rattle.replay_cli.specs.Outputs.{Writing, Took, IsFront}
+use Rattle.replay_cli.specs.Stages.{IsAt}
 
 abbrev pub is_feed : ℕ → Bool
 is_feed b = b == 10
 
--- what stands between line feeds
-abbrev pub parts_of : List ℕ → List (List ℕ)
-parts_of bytes = slice_split is_feed bytes
+-- these bytes came: the whole lines among them were worked, the line that has begun is kept, and what is to be written is taken by the sink or
+-- still to be written
+pub record HasRead (given taken : List ℕ) (r : Replaying) : Type 0 where
+  pub lines : GoodLines
+  pub splits : Splits given lines r.line.items
+  pub begun : IsBegun r.line.items
+  pub at : IsAt r.mode lines r.stage
+  pub wrote : taken ++ r.out.items ≡ written r.mode lines
 
--- the bytes before the first line feed, and those behind it
-abbrev pub first_line : List ℕ → Option (List ℕ × List ℕ)
-first_line bytes = if nat_lt (position_or_len is_feed bytes) (length bytes) then Some (before_first is_feed bytes, after_first is_feed bytes) else None
+-- the call ends here: these lines were worked, and what is to be written for them is taken or still to be written
+pub record HasEnded (lines : GoodLines) (taken : List ℕ) (r : Replaying) : Type 0 where
+  pub at : IsAt r.mode lines r.stage
+  pub wrote : taken ++ r.out.items ≡ written r.mode lines
 
--- what stands behind the header
-abbrev pub behind_header : List ℕ → Option (List ℕ)
-behind_header bytes = first_line bytes >>= λ p. (if bytes_eq p.0 header then Some p.1 else None)
+-- a front of what is to be written for the lines of these bytes
+pub record WroteFront (m : Mode) (given front : List ℕ) : Type 0 where
+  pub lines : GoodLines
+  pub rest : List ℕ
+  pub splits : Splits given lines rest
+  pub front_of : IsFront front (written m lines)
 
--- a script as it was read
-pub record Read : Type 0 where
-  pub book : Declared
-  pub verbs : List Verb
+-- ---- what the calls on it come to
 
--- the verbs behind the book
-abbrev pub script_with : Declared → List ℕ → Option Read
-script_with book rest = verbs_of (parts_of rest) >>= λ verbs. Some (record { book = book; verbs = verbs })
+-- what is to be written was written, or a front of it
+abbrev pub Flushes : Writing → (old new : Replaying) → Result (Unit {0}) Status → Type 0
+Flushes w old new (Ok u) = Took w old.out.items × (new.out.items ≡ []) × (new.mode ≡ old.mode) × (new.stage ≡ old.stage) × (new.line ≡ old.line)
+Flushes w old new (Err status.WriteFault) = (front : List ℕ) × (Took w front × IsFront front old.out.items × Rose w.faults w.faults_behind)
+Flushes w old new (Err status.OutOfMemory) = (front : List ℕ) × (Took w front × IsFront front old.out.items)
+Flushes w old new (Err _) = ⊥
 
-abbrev pub script_of : List ℕ → Option Read
-script_of bytes = do
-  rest ← behind_header bytes
-  second ← first_line rest
-  line ← line_text second.0
-  book ← book_in line
-  script_with book second.1
+-- the bytes that came are refused. A fault of the sink or want of memory leaves a front written
+abbrev pub PieceRefused : (m : Mode) → (given taken : List ℕ) → Writing → (new : Replaying) → Status → Type 0
+PieceRefused m given taken w new status.WriteFault = Rose w.faults w.faults_behind × WroteFront m given taken
+PieceRefused m given taken w new status.OutOfMemory = WroteFront m given taken
+PieceRefused m given taken w new s = (lines : GoodLines) × (BreaksIn given lines s × HasEnded lines taken new)
+
+-- a piece came behind these bytes
+abbrev pub PieceDoes : (m : Mode) → (given taken piece : List ℕ) → Writing → (new : Replaying) → Result (Unit {0}) Status → Type 0
+PieceDoes m given taken piece w new (Ok u) = (more : List ℕ) × (Took w more × HasRead (given ++ piece) (taken ++ more) new)
+PieceDoes m given taken piece w new (Err s) = (more : List ℕ) × (Took w more × PieceRefused m (given ++ piece) (taken ++ more) w new s)
+
+-- the source wasn't read to its end. A piece with which it would have given over 2^40 bytes isn't looked at
+abbrev pub ReadRefused : (m : Mode) → Reading → Writing → (new : Replaying) → Status → Type 0
+ReadRefused m r w new status.WriteFault = (given taken : List ℕ) × (Gave r given × Took w taken × Rose w.faults w.faults_behind × WroteFront m given taken)
+ReadRefused m r w new status.OutOfMemory = (given taken : List ℕ) × (Gave r given × Took w taken × WroteFront m given taken)
+ReadRefused m r w new status.ReadFault = (given taken : List ℕ) × (GaveFew r given × Took w taken × Rose r.faults r.faults_behind × HasRead given taken new)
+ReadRefused m r w new status.TooMuch =
+    (given piece taken : List ℕ)
+    × (Gave r (given ++ piece) × (length given ≤ most_script) × (most_script < length (given ++ piece)) × Took w taken × HasRead given taken new)
+ReadRefused m r w new s = (given taken : List ℕ) × (lines : GoodLines) × (GaveFew r given × Took w taken × BreaksIn given lines s × HasEnded lines taken new)
+
+-- reading the source came to this
+abbrev pub ReadDoes : (m : Mode) → Reading → Writing → (new : Replaying) → Result (Unit {0}) Status → Type 0
+ReadDoes m r w new (Ok u) = (given taken : List ℕ) × (GaveAll r given × Took w taken × HasRead given taken new)
+ReadDoes m r w new (Err s) = ReadRefused m r w new s
+
+-- these bytes are a whole script, and what is to be written for it is taken or still to be written
+pub record HasReplayed (given taken : List ℕ) (r : Replaying) : Type 0 where
+  pub script : Script
+  pub is_script : IsScript given script
+  pub at : IsAt r.mode (Session script) r.stage
+  pub wrote : taken ++ r.out.items ≡ output_of r.mode script
+
+-- nothing comes behind these bytes
+abbrev pub EndDoes : (given taken : List ℕ) → (new : Replaying) → Result (Unit {0}) Status → Type 0
+EndDoes given taken new (Ok u) = HasReplayed given taken new
+EndDoes given taken new (Err s) = (s ≡ status.OutOfMemory) ⊎ ((lines : GoodLines) × (BreaksAtEnd given lines s × HasEnded lines taken new))

@@ -1,23 +1,27 @@
 -- What a replay came to.
-use Rattle.std.specs.Prelude.{◌≡◌, ℕ, ◌+◌, ◌++◌, ◌^◌, ◌<◌, ◌≤◌, ◌⊎◌, List, [], length, Option, Some, None, IsSome, Result, Ok, Err}
-use Rattle.cable_base.specs.declared.faults.Trouble.{Trouble}
-use Rattle.cable_base.specs.declared.faults.Trouble.TheVariants as trouble
+use Rattle.std.specs.Prelude.{◌≡◌, ℕ, ◌++◌, ◌<◌, ◌≤◌, ◌⊎◌, List, [], length, Option, Some, None, Result, Ok, Err}
 use Rattle.cable_base.specs.Causes.{Rose}
+use Rattle.channel_book.specs.Books.{book_of}
 use Rattle.cable_model.specs.declared.events.Event.{Event}
 use Rattle.cable_model.specs.declared.statuses.Status.{Status}
 use Rattle.cable_model.specs.declared.statuses.Status.TheVariants as status
-use Rattle.cable_model.specs.declared.verbs.Verb.{Verb}
+use Rattle.cable_model.specs.Breaks.{GoodLines, BreaksIn, BreaksAtEnd, FirstBreak, IsUnbroken}
+use Rattle.cable_model.specs.Breaks.GoodLines.{Nothing, Header, Session}
 use Rattle.cable_model.specs.HistoryLaws.{HistoryWindows}
-use Rattle.cable_model.specs.Transcript.{said_all, idle_count, lines_text, with_lines}
-use Rattle.cable_model.specs.Script.{expand, expand_all, rules_of}
-use Rattle.node_world.specs.Worlds.{WorldState, StandsFor, after}
-use Rattle.replay_cli.specs.declared.running.Tally.{Tally}
+use Rattle.cable_model.specs.Limits.{most_script}
+use Rattle.cable_model.specs.Script.{Script, IsScript, events_of, rules_of}
+use Rattle.node_world.specs.Worlds.{WorldState}
 use Rattle.replay_cli.specs.declared.modes.Mode.{Mode}
-use Rattle.replay_cli.specs.Modes.{mode_of, output_of}
-use Rattle.replay_cli.specs.Inputs.{Reading, Gave, GaveAll}
+use Rattle.replay_cli.specs.declared.modes.Mode.TheVariants as mode
+use Rattle.replay_cli.specs.declared.modes.Order.{Order}
+use Rattle.replay_cli.specs.declared.modes.Order.TheVariants as order
+use Rattle.replay_cli.specs.Inputs.{Reading, Gave, GaveFew, GaveAll, WasNotRead}
+use Rattle.replay_cli.specs.Made.{made_book, made_script}
+use Rattle.replay_cli.specs.Modes.{order_of, written, output_of, made_output}
 use Rattle.replay_cli.specs.Outputs.{Writing, Took, IsFront}
-use Rattle.replay_cli.specs.Reading.{Read, script_of}
-use Rattle.replay_cli.specs.Scripts.{IsScriptOf}
+use Rattle.replay_cli.specs.declared.replaying.Replaying.{Replaying}
+use Rattle.replay_cli.specs.Reading.{WroteFront, HasEnded, HasReplayed, ReadRefused}
+use Rattle.replay_cli.specs.Stages.{IsAt, IsWorldOf}
 
 -- what a call met: its words, its source and its sink, and the world that it hands out
 pub record Call : Type 0 where
@@ -26,68 +30,143 @@ pub record Call : Type 0 where
   pub sink : Writing
   pub world : Option WorldState
 
--- the words are a list that the command takes
-abbrev pub AreWords : List (List ℕ) → Type 0
-AreWords words = IsSome (mode_of words)
+-- ---- the lines that were worked
 
--- the world has the script's book, and stands for the events of its lines
-pub record IsWorldOf (s : Read) (w : WorldState) : Type 0 where
-  pub book : w.book ≡ s.book
-  pub stands : StandsFor w (expand_all s.verbs)
+-- a world that stands for their events, unless they were printed or no book was read
+abbrev pub HandsOut : Mode → GoodLines → Option WorldState → Type 0
+HandsOut mode.Print lines world = world ≡ None
+HandsOut _ Nothing world = world ≡ None
+HandsOut _ Header world = world ≡ None
+HandsOut _ (Session s) world = (w : WorldState) × ((world ≡ Some w) × IsWorldOf s w)
 
 -- however many of the script's events were worked, the rows that they finished are those of the windows
-abbrev pub HasWindows : Read → Type 0
-HasWindows s = (worked rest : List Event) → worked ++ rest ≡ expand_all s.verbs → HistoryWindows (rules_of s.book) worked
+abbrev pub HasWindows : Script → Type 0
+HasWindows s = (worked rest : List Event) → worked ++ rest ≡ events_of s → HistoryWindows (rules_of s.book) worked
 
--- nothing, or the beginning of what is to be written for the script that these bytes are
-abbrev pub IsPart : (List ℕ → Read → Type 0) → Mode → List ℕ → List ℕ → Type 0
-IsPart Is mode given front = (front ≡ []) ⊎ ((s : Read) × (Is given s × IsFront front (output_of mode s) × HasWindows s))
+abbrev pub HaveWindows : Mode → GoodLines → Type 0
+HaveWindows mode.Print lines = Unit {0}
+HaveWindows _ (Session s) = HasWindows s
+HaveWindows _ _ = Unit {0}
 
--- what a status says of the call, where `Is` tells which bytes are which script
-abbrev pub OutcomeBy : (List ℕ → Read → Type 0) → Status → Call → Type 0
--- the source was read to its end, the bytes are a script, what the words ask for is written, and the world stands for the script's events
-OutcomeBy Is status.Ok c =
-    (mode : Mode) × (given : List ℕ) × (s : Read) × (w : WorldState)
-    × (GaveAll c.source given × Is given s × Took c.sink (output_of mode s) × (mode_of c.words ≡ Some mode) × (c.world ≡ Some w) × IsWorldOf s w × HasWindows s)
--- the words are no list that the command takes: nothing is read, written or run
-OutcomeBy Is status.Usage c = (mode_of c.words ≡ None) × Gave c.source [] × Took c.sink [] × (c.world ≡ None)
--- the source was read to its end, and the bytes are no script: nothing is written or run
-OutcomeBy Is (status.BadScript line reason) c = (given : List ℕ) × (GaveAll c.source given × ((s : Read) → Is given s → ⊥) × Took c.sink [] × (line ≡ 0) × AreWords c.words × (c.world ≡ None))
-OutcomeBy Is status.ReadFault c =
-    (given : List ℕ) × (Gave c.source given × (length given ≤ 2 ^ 40) × Rose c.source.faults c.source.faults_behind × Took c.sink [] × AreWords c.words × (c.world ≡ None))
-OutcomeBy Is status.WriteFault c =
-    (mode : Mode) × (given : List ℕ) × (s : Read) × (front : List ℕ)
-    × (GaveAll c.source given × Is given s × Took c.sink front × IsFront front (output_of mode s) × Rose c.sink.faults c.sink.faults_behind × (mode_of c.words ≡ Some mode) × HasWindows s)
-OutcomeBy Is status.OutOfMemory c = (mode : Mode) × (given : List ℕ) × (front : List ℕ) × (Gave c.source given × Took c.sink front × IsPart Is mode given front × (mode_of c.words ≡ Some mode))
-OutcomeBy Is status.TooMuch c = (given : List ℕ) × (Gave c.source given × (2 ^ 40 < length given) × Took c.sink [] × AreWords c.words × (c.world ≡ None))
+-- exactly what is to be written for these lines is written, and the world stands for their events
+pub record Worked (m : Mode) (lines : GoodLines) (c : Call) : Type 0 where
+  pub wrote : Took c.sink (written m lines)
+  pub world : HandsOut m lines c.world
+  pub windows : HaveWindows m lines
 
--- what working a line came to, behind this history that the world stood for
-abbrev pub Works : Verb → (old new : WorldState) → (before : List Event) → Writing → (tally tally' : Tally) → Result (Unit {0}) Trouble → Type 0
-Works v old new before sink tally tally' (Ok u) =
-    Took sink (lines_text (said_all (rules_of old.book) (after old before) (expand v))) × StandsFor new (before ++ expand v)
-    × (tally'.events ≡ tally.events + length (expand v)) × (tally'.idle ≡ tally.idle + idle_count (rules_of old.book) (after old before) (expand v))
-    × (tally'.totals ≡ with_lines tally.totals (said_all (rules_of old.book) (after old before) (expand v)))
-Works v old new before sink tally tally' (Err trouble.Failed) =
-    (front : List ℕ) × (Took sink front × IsFront front (lines_text (said_all (rules_of old.book) (after old before) (expand v))) × Rose sink.faults sink.faults_behind)
-Works v old new before sink tally tally' (Err trouble.OutOfMemory) =
-    (front : List ℕ) × (Took sink front × IsFront front (lines_text (said_all (rules_of old.book) (after old before) (expand v))))
+-- ---- the script of the source
 
--- what performing a script came to
-abbrev pub Performs : Mode → Read → Writing → Result WorldState Trouble → Type 0
-Performs mode s sink (Ok w) = Took sink (output_of mode s) × IsWorldOf s w
-Performs mode s sink (Err trouble.Failed) = (front : List ℕ) × (Took sink front × IsFront front (output_of mode s) × Rose sink.faults sink.faults_behind)
-Performs mode s sink (Err trouble.OutOfMemory) = (front : List ℕ) × (Took sink front × IsFront front (output_of mode s))
+-- a front of what is to be written for it is written: for the lines that the source gave, or for the whole
+pub record WroteSome (m : Mode) (c : Call) : Type 0 where
+  pub given : List ℕ
+  pub gave : Gave c.source given
+  pub front : List ℕ
+  pub took : Took c.sink front
+  pub front_of : WroteFront m given front ⊎ ((s : Script) × (GaveAll c.source given × IsScript given s × IsFront front (output_of m s)))
+  pub windows : (lines : GoodLines) → HaveWindows m lines
 
--- the bytes are read as this script
-abbrev pub IsRead : List ℕ → Read → Type 0
-IsRead bytes s = script_of bytes ≡ Some s
+-- this is the first break of what the source gave. That nothing more comes is known only of a source that was read to its end
+abbrev pub Broke : Reading → List ℕ → GoodLines → Status → Type 0
+Broke r given lines s = (GaveFew r given × BreaksIn given lines s) ⊎ (GaveAll r given × BreaksAtEnd given lines s)
 
--- what a status says of the call, in the words of the grammar
+abbrev pub Refused : Mode → Call → Status → Type 0
+Refused m c s = (given : List ℕ) × (lines : GoodLines) × (Broke c.source given lines s × Worked m lines c)
+
+-- what a status says of a call that reads the source
+abbrev pub ReadOutcome : Mode → Status → Call → Type 0
+-- it was read to its end, its bytes are a script, and what the words ask for is written
+ReadOutcome m status.Ok c = (given : List ℕ) × (s : Script) × (GaveAll c.source given × IsScript given s × Took c.sink (output_of m s) × HandsOut m (Session s) c.world × HaveWindows m (Session s))
+-- this is the first break, and the lines before it were worked
+ReadOutcome m (status.BadScript line why) c = Refused m c (status.BadScript line why)
+ReadOutcome m (status.BadBook fault) c = Refused m c (status.BadBook fault)
+ReadOutcome m status.Unended c = Refused m c status.Unended
+ReadOutcome m (status.TooLong line) c = Refused m c (status.TooLong line)
+-- no line that was read breaks, and those that were whole were worked
+ReadOutcome m status.ReadFault c =
+    (given : List ℕ) × (lines : GoodLines) × (GaveFew c.source given × IsUnbroken given lines × Rose c.source.faults c.source.faults_behind × Worked m lines c)
+-- no line breaks before the piece with which the source gave over 2^40 bytes, and those that were whole before it were worked
+ReadOutcome m status.TooMuch c =
+    (given piece : List ℕ) × (lines : GoodLines)
+    × (Gave c.source (given ++ piece) × (length given ≤ most_script) × (most_script < length (given ++ piece)) × IsUnbroken given lines × Worked m lines c)
+ReadOutcome m status.WriteFault c = Rose c.sink.faults c.sink.faults_behind × WroteSome m c
+ReadOutcome m status.OutOfMemory c = WroteSome m c
+ReadOutcome m status.Usage c = ⊥
+ReadOutcome m status.StoreFault c = ⊥
+ReadOutcome m status.NetFault c = ⊥
+
+-- ---- the script of the source, before the last of what is to be written goes out
+
+-- what a status says of bytes that were read and worked. What is to be written for their lines is taken or still to be written
+abbrev pub Met : (m : Mode) → Reading → Writing → (new : Replaying) → Status → Type 0
+Met m r w new status.Ok = (given taken : List ℕ) × (GaveAll r given × Took w taken × HasReplayed given taken new)
+Met m r w new status.ReadFault = ReadRefused m r w new status.ReadFault
+Met m r w new status.TooMuch = ReadRefused m r w new status.TooMuch
+Met m r w new status.WriteFault = ReadRefused m r w new status.WriteFault
+Met m r w new status.OutOfMemory = ReadRefused m r w new status.OutOfMemory
+Met m r w new s = (given taken : List ℕ) × (lines : GoodLines) × (Broke r given lines s × Took w taken × HasEnded lines taken new)
+
+-- this is what it hands out
+abbrev pub Hands : Replaying → Option WorldState → Type 0
+Hands r world = (lines : GoodLines) → IsAt r.mode lines r.stage → HandsOut r.mode lines world
+
+-- ---- the made script
+
+-- the script that is made of a seed, under the book that its text declares
+pub record IsMade (seed count : ℕ) (s : Script) : Type 0 where
+  pub declares : book_of made_book ≡ Ok s.book
+  pub made : s ≡ made_script seed count s.book
+
+-- what running the made script of a seed came to
+abbrev pub MadeDoes : (seed count : ℕ) → Writing → Result WorldState Status → Type 0
+MadeDoes seed count sink (Ok w) = (s : Script) × (IsMade seed count s × Took sink (made_output s) × IsWorldOf s w)
+MadeDoes seed count sink (Err status.WriteFault) =
+    (s : Script) × (front : List ℕ) × (IsMade seed count s × Took sink front × IsFront front (made_output s) × Rose sink.faults sink.faults_behind)
+MadeDoes seed count sink (Err status.OutOfMemory) = (s : Script) × (front : List ℕ) × (IsMade seed count s × Took sink front × IsFront front (made_output s))
+MadeDoes seed count sink (Err _) = ⊥
+
+-- what a status says of a call that makes its script. The source isn't asked
+abbrev pub MadeOutcome : (seed count : ℕ) → Status → Call → Type 0
+MadeOutcome seed count status.Ok c =
+    (s : Script) × (IsMade seed count s × WasNotRead c.source × Took c.sink (made_output s) × HandsOut mode.Totals (Session s) c.world × HasWindows s)
+MadeOutcome seed count status.WriteFault c =
+    (s : Script) × (front : List ℕ)
+    × (IsMade seed count s × WasNotRead c.source × Took c.sink front × IsFront front (made_output s) × Rose c.sink.faults c.sink.faults_behind × HasWindows s)
+MadeOutcome seed count status.OutOfMemory c =
+    (s : Script) × (front : List ℕ) × (IsMade seed count s × WasNotRead c.source × Took c.sink front × IsFront front (made_output s) × HasWindows s)
+MadeOutcome seed count _ c = ⊥
+
+-- ---- all calls
+
+-- the words are none of the four lists: nothing is read, written or run
+pub record DidNothing (s : Status) (c : Call) : Type 0 where
+  pub usage : s ≡ status.Usage
+  pub source : WasNotRead c.source
+  pub sink : Took c.sink []
+  pub world : c.world ≡ None
+
+abbrev pub OutcomeFor : Option Order → Status → Call → Type 0
+OutcomeFor None s c = DidNothing s c
+OutcomeFor (Some (order.Read m)) s c = ReadOutcome m s c
+OutcomeFor (Some (order.Make seed count)) s c = MadeOutcome seed count s c
+
+-- what a status says of a call
 abbrev pub Outcome : Status → Call → Type 0
-Outcome s c = OutcomeBy IsScriptOf s c
+Outcome s c = OutcomeFor (order_of c.words) s c
 
--- with words that are taken, with a script of at most 2^40 bytes in a source that tells them, and where nothing failed, it is replayed
-abbrev pub IsComplete : Status → (words : List (List ℕ)) → (left : Option (List ℕ)) → (read_faults read_faults_behind write_faults write_faults_behind : ℕ) → Type 0
-IsComplete s words left read_faults read_faults_behind write_faults write_faults_behind =
-    AreWords words → (all : List ℕ) → left ≡ Some all → (script : Read) → IsScriptOf all script → length all ≤ 2 ^ 40
-    → (Rose read_faults read_faults_behind → ⊥) → (Rose write_faults write_faults_behind → ⊥) → (s ≡ status.Ok) ⊎ (s ≡ status.OutOfMemory)
+-- neither the source nor the sink failed
+pub record NothingFailed (c : Call) : Type 0 where
+  pub read : Rose c.source.faults c.source.faults_behind → ⊥
+  pub wrote : Rose c.sink.faults c.sink.faults_behind → ⊥
+
+-- the source tells its bytes, and they are at most 2^40
+pub record Tells (c : Call) (all : List ℕ) : Type 0 where
+  pub left : c.source.left ≡ Some all
+  pub few : length all ≤ most_script
+
+-- where nothing fails, a script is replayed whole, and bytes that are none are refused with their first break. Only memory can be wanted
+pub record IsComplete (s : Status) (c : Call) : Type 0 where
+  pub whole : NothingFailed c → (m : Mode) → order_of c.words ≡ Some (order.Read m) → (all : List ℕ) → Tells c all
+      → (script : Script) → IsScript all script → (s ≡ status.Ok) ⊎ (s ≡ status.OutOfMemory)
+  pub broken : NothingFailed c → (m : Mode) → order_of c.words ≡ Some (order.Read m) → (all : List ℕ) → Tells c all
+      → (lines : GoodLines) → (b : Status) → FirstBreak all lines b → (s ≡ b) ⊎ (s ≡ status.OutOfMemory)
+  pub made : NothingFailed c → (seed count : ℕ) → order_of c.words ≡ Some (order.Make seed count) → (s ≡ status.Ok) ⊎ (s ≡ status.OutOfMemory)

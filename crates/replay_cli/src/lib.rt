@@ -1,15 +1,14 @@
-//! Replays a session script: reads it, steps its events in a world of nodes over one table, and writes the transcript.
+//! Replays a session script: reads it line by line, steps the events of each line in a world of nodes over one table, and writes what they say.
 #![tactic(auto)]
 
-mod inputs;
-mod laws;
+mod draws;
+mod made;
 mod modes;
 mod outputs;
-mod performing;
 mod printing;
+mod replaying;
 mod replays;
 mod running;
-mod scripts;
+mod stages;
 
-pub use laws::scripts_are_read;
 pub use replays::replay;

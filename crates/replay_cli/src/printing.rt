@@ -1,65 +1,42 @@
 ghost use Rattle.std.specs.Prelude.{◌≡◌, ◌++◌, IfOk, OnOk, string_bytes};
-ghost use Rattle.cable_model.specs.Transcript.{note_text, line_text, ended, end_line, lines_text, totals_line};
-ghost use Rattle.replay_cli.specs.Modes.{tail_of};
+ghost use Rattle.cable_model.specs.Printed.{printed_events};
+ghost use Rattle.cable_model.specs.Transcript.{ended, end_line, lines_text, totals_line};
+ghost use Rattle.replay_cli.specs.Modes.{tail_lines};
 
 use crate::modes::Mode;
 use crate::running::Tally;
 use cable_base::OutOfMemory;
-use cable_model::{Line, Note, Totals};
+use cable_model::{Event, Line, Totals};
+use cable_script::{print_event, print_line};
 use std::alloc::Global;
 
-/// The text of a note.
-fn note_text(note: Note) -> &'static str
-    ensures { result.now ≡ note_text note }
+/// Puts these bytes and a line feed behind the text.
+pub fn push_ended(out: &mut Vec<u8>, bytes: &[u8]) -> Result<(), OutOfMemory>
+    ensures { OnOk result (out.new.items ≡ out.old.items ++ ended bytes.now) }
 {
-    match note {
-        Note::BadJson => "bad-json",
-        Note::UnknownCommand => "unknown-command",
-        Note::NoIdentifier => "no-identifier",
-        Note::BadData => "bad-data",
-        Note::BadIdentifier => "bad-identifier",
-        Note::UnknownChannel => "unknown-channel",
-        Note::DataNoObject => "data-no-object",
-        Note::UnknownAction => "unknown-action",
-        Note::UnknownSubscription => "unknown-subscription",
-        Note::TooManySubscriptions => "too-many-subscriptions",
-        Note::ReservedStream => "reserved-stream",
-        Note::NameTooLong => "name-too-long",
-        Note::TooManyStreams => "too-many-streams",
-        Note::ReservedCast => "reserved-cast",
-        Note::PayloadTooLong => "payload-too-long",
-        Note::Busy => "busy",
-        Note::TooLong => "too-long",
-        Note::StoreRefused => "store-refused",
-    }
+    out.extend_from_slice(bytes)?;
+    out.push(b'\n')?;
+    Ok(())
 }
 
-/// A line of the transcript with its line feed.
-fn line_text(alloc: Global, line: &Line) -> Result<String, OutOfMemory>
-    ensures { IfOk result (λ s. string_bytes s ≡ ended (line_text line.now)) }
-{
-    Ok(match line {
-        Line::Text { conn, text } => {
-            let text = text.as_str();
-            format!(in alloc; "{} {}\n", conn.0, text)?
-        }
-        Line::Note {
-            conn: Some(conn),
-            note,
-        } => format!(in alloc; "{} ! {}\n", conn.0, note_text(*note))?,
-        Line::Note { conn: None, note } => format!(in alloc; "- ! {}\n", note_text(*note))?,
-        Line::Row { id } => format!(in alloc; "- row {}\n", id.0)?,
-        Line::Trimmed { count } => format!(in alloc; "- trimmed {}\n", count)?,
-    })
-}
-
-/// Puts these lines behind the text.
+/// Puts these lines of a transcript behind the text.
 pub fn push_lines(alloc: Global, out: &mut Vec<u8>, lines: &[Line]) -> Result<(), OutOfMemory>
     ensures { OnOk result (out.new.items ≡ out.old.items ++ lines_text lines.now) }
 {
     for line in lines {
-        let text = line_text(alloc, line)?;
-        out.extend_from_slice(text.as_str().as_bytes())?;
+        let text = print_line(alloc, line)?;
+        push_ended(out, text.as_str().as_bytes())?;
+    }
+    Ok(())
+}
+
+/// Puts the lines of these events behind the text.
+pub fn push_events(alloc: Global, out: &mut Vec<u8>, events: &[Event]) -> Result<(), OutOfMemory>
+    ensures { OnOk result (out.new.items ≡ out.old.items ++ printed_events events.now) }
+{
+    for event in events {
+        let text = print_event(alloc, event)?;
+        push_ended(out, text.as_str().as_bytes())?;
     }
     Ok(())
 }
@@ -83,12 +60,14 @@ fn totals_text(alloc: Global, totals: &Totals) -> Result<String, OutOfMemory>
 
 /// What stands behind the lines of the events: the end line, and the totals line where it is asked for.
 pub fn tail_text(alloc: Global, mode: Mode, tally: &Tally) -> Result<String, OutOfMemory>
-    ensures { IfOk result (λ s. string_bytes s ≡ tail_of mode tally.now.events tally.now.idle tally.now.totals) }
+    ensures { IfOk result (λ s. string_bytes s ≡ tail_lines mode tally.now.events tally.now.idle tally.now.totals) }
 {
+    if mode == Mode::Print {
+        return Ok(String::new(alloc));
+    }
     let mut text = end_text(alloc, tally.events, tally.idle)?;
-    match mode {
-        Mode::Transcript => {}
-        Mode::Totals => text.push_str(totals_text(alloc, &tally.totals)?.as_str())?,
+    if mode == Mode::Totals {
+        text.push_str(totals_text(alloc, &tally.totals)?.as_str())?;
     }
     Ok(text)
 }

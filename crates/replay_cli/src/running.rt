@@ -1,12 +1,13 @@
-ghost use Rattle.std.specs.Prelude.{◌≡◌, ◌+◌, ◌<◌, ◌≤◌, ◌^◌, ◌∷◌, [], All, IfOk, OnOk, length};
+ghost use Rattle.std.specs.Prelude.{◌≡◌, ◌+◌, ◌∷◌, [], All, IfOk, OnOk};
 ghost use Rattle.cable_model.specs.Transcript.{with_line, with_lines, no_totals};
 ghost use Rattle.node_world.specs.Steps.{IsPlayed};
-ghost use Rattle.replay_cli.specs.Running.{RunsAs};
+ghost use Rattle.node_world.specs.Worlds.{IsStep};
+ghost use Rattle.replay_cli.specs.Running.{CountsAs, RunsAs};
 
 use crate::printing::push_lines;
 use cable_base::OutOfMemory;
 use cable_model::{Event, Line, Totals};
-use node_world::World;
+use node_world::{Said, World};
 use std::alloc::Global;
 
 /// How many events were stepped, how many of them were idle, and what their lines come to.
@@ -36,7 +37,7 @@ impl Tally {
 }
 
 /// A count that would pass its end is answered as want of memory.
-fn more(count: u64, by: u64) -> Result<u64, OutOfMemory>
+pub fn more(count: u64, by: u64) -> Result<u64, OutOfMemory>
     ensures { IfOk result (λ n. n ≡ count + by) }
 {
     count.checked_add(by).ok_or(OutOfMemory)
@@ -63,7 +64,28 @@ fn count_lines(totals: &mut Totals, lines: &[Line]) -> Result<(), OutOfMemory>
     Ok(())
 }
 
-/// Steps one event, writes its lines behind the text, and counts it.
+/// Steps one event, counts it, and gives what it said.
+fn step_event(
+    alloc: Global,
+    world: &mut World,
+    event: &Event,
+    tally: &mut Tally,
+) -> Result<Said, OutOfMemory>
+    requires { IsPlayed event.now }
+    ensures said { IfOk result (λ said. IsStep event.now world.old said world.new) }
+    ensures counts { OnOk result (CountsAs (event.now ∷ []) world.old world.new tally.old tally.new) }
+    ensures book { world.new.book ≡ world.old.book }
+{
+    let said = world.step(alloc, event)?;
+    count_lines(&mut tally.totals, said.lines.as_slice())?;
+    tally.events = more(tally.events, 1)?;
+    if said.idle {
+        tally.idle = more(tally.idle, 1)?;
+    }
+    Ok(said)
+}
+
+/// Steps one event, counts it, and writes its lines behind the text.
 fn run_event(
     alloc: Global,
     world: &mut World,
@@ -71,24 +93,15 @@ fn run_event(
     text: &mut Vec<u8>,
     tally: &mut Tally,
 ) -> Result<(), OutOfMemory>
-    requires played { IsPlayed event.now }
-    requires events { tally.old.events + 1 < 2 ^ 64 }
-    requires idle { tally.old.idle ≤ tally.old.events }
+    requires { IsPlayed event.now }
     ensures runs { OnOk result (RunsAs (event.now ∷ []) world.old world.new text.old.items text.new.items tally.old tally.new) }
-    ensures idle { OnOk result (tally.new.idle ≤ tally.new.events) }
     ensures book { world.new.book ≡ world.old.book }
 {
-    let said = world.step(alloc, event)?;
-    push_lines(alloc, text, said.lines.as_slice())?;
-    count_lines(&mut tally.totals, said.lines.as_slice())?;
-    tally.events += 1;
-    if said.idle {
-        tally.idle += 1;
-    }
-    Ok(())
+    let said = step_event(alloc, world, event, tally)?;
+    push_lines(alloc, text, said.lines.as_slice())
 }
 
-/// Works a line: steps its events, writes their lines behind the text, and counts them.
+/// Steps events, counts them, and writes their lines behind the text.
 pub fn run_events(
     alloc: Global,
     world: &mut World,
@@ -96,15 +109,29 @@ pub fn run_events(
     text: &mut Vec<u8>,
     tally: &mut Tally,
 ) -> Result<(), OutOfMemory>
-    requires played { All IsPlayed events.now }
-    requires events { tally.old.events + length events.now < 2 ^ 64 }
-    requires idle { tally.old.idle ≤ tally.old.events }
+    requires { All IsPlayed events.now }
     ensures runs { OnOk result (RunsAs events.now world.old world.new text.old.items text.new.items tally.old tally.new) }
-    ensures idle { OnOk result (tally.new.idle ≤ tally.new.events) }
     ensures book { world.new.book ≡ world.old.book }
 {
     for event in events {
         run_event(alloc, world, event, text, tally)?;
+    }
+    Ok(())
+}
+
+/// Steps events and counts them. Their lines are written nowhere.
+pub fn count_events(
+    alloc: Global,
+    world: &mut World,
+    events: &[Event],
+    tally: &mut Tally,
+) -> Result<(), OutOfMemory>
+    requires { All IsPlayed events.now }
+    ensures counts { OnOk result (CountsAs events.now world.old world.new tally.old tally.new) }
+    ensures book { world.new.book ≡ world.old.book }
+{
+    for event in events {
+        step_event(alloc, world, event, tally)?;
     }
     Ok(())
 }

@@ -1,4 +1,4 @@
-use Rattle.std.proofs.Common.{◌≡◌, ◌≤◌, ◌+◌, take}
+use Rattle.std.proofs.Common.{◌≡◌, take}
 use Rattle.replay_cli.specs.Running.{RunsAs}
 use Rattle.replay_cli.proofs.running.run_events.Given as goal
 
@@ -7,7 +7,5 @@ abbrev pub invariant-loop-event : goal.invariant-loop-event
 invariant-loop-event l =
     record {
       runs : RunsAs (take l.event-index l.events) l.fn.world l.world l.fn.text.items l.text.items l.fn.tally l.tally;
-      count : l.tally.events ≡ l.fn.tally.events + l.event-index;
-      idle : l.tally.idle ≤ l.tally.events;
       book : l.world.book ≡ l.fn.world.book;
     }
