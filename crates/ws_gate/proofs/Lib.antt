@@ -1,0 +1,9 @@
+pub mod Cuts
+pub mod Finding
+pub mod Strips
+pub mod TokensTold
+pub mod Names
+pub mod Blanks
+pub mod ProtocolsTold
+pub mod OriginsTold
+pub mod Told

@@ -1,0 +1,6 @@
+pub mod Handshakes
+pub mod Parts
+pub mod Tokens
+pub mod Protocols
+pub mod Admissions
+pub mod Rulings
