@@ -1,11 +1,12 @@
-//! What every crate of the server stands on: texts and names, the numbers of things, rows, sources and sinks of bytes,
-//! the clock, counts of steps, and JSON without its white space.
+//! What every crate of the server stands on: texts and names with their hash, the numbers of things, rows, sources and
+//! sinks of bytes, the clock, counts of steps, and JSON without its white space.
 #![tactic(auto)]
 
 mod adapters;
 mod clocks;
 mod failing;
 mod faults;
+mod hashing;
 mod lists;
 mod memory;
 mod numbers;
@@ -19,6 +20,7 @@ pub use adapters::{StdSink, StdSource};
 pub use clocks::{Clock, SystemClock};
 pub use failing::FailingCalls;
 pub use faults::{Failed, OutOfMemory, Trouble};
+pub use hashing::channel_hash;
 pub use lists::{Copied, Listed};
 pub use memory::{MemSink, MemSource};
 pub use numbers::{ConnNo, Millis, NodeNo, RowId, SubNo, WantNo};

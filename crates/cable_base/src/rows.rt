@@ -20,7 +20,7 @@ pub struct Row {
 }
 
 impl Row {
-    /// An equal row of its own.
+    /// An equal row. It shares the characters of the name and of the message, and takes no memory for them.
     pub fn copy(&self, alloc: Global) -> Result<Row, OutOfMemory>
         ensures { IfOk result (λ r. r ≡ self.now) }
     {

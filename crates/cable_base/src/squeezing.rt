@@ -75,7 +75,7 @@ pub fn squeeze(alloc: Global, text: &str) -> Result<Text, OutOfMemory>
 {
     let bytes = kept_bytes(alloc, text.as_bytes())?;
     match String::from_utf8(bytes) {
-        Ok(inner) => Ok(Text::of(inner)),
+        Ok(inner) => Text::of(inner),
         Err(_) => unreachable!(),
     }
 }

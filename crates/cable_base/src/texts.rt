@@ -4,19 +4,21 @@ use crate::faults::OutOfMemory;
 use crate::lists::Copied;
 use std::alloc::Global;
 use std::marker::Model;
+use std::sync::ArcStr;
 
-/// Owned UTF-8 text, seen as its bytes.
+/// UTF-8 text, seen as its bytes. A text and its copies share their characters, which stay until the last of them goes.
 #[derive(Debug, Drop)]
 pub struct Text {
-    inner: String,
+    shared: ArcStr,
 }
 
 impl Model for Text {
-    ghost use Rattle.std.specs.Prelude.{List, ℕ, string_bytes};
+    ghost use Rattle.std.specs.Prelude.{List, ℕ};
+    ghost use Rattle.std.specs.Arc.{arc_str_bytes};
 
     ghost Value = { List ℕ };
 
-    ghost view = { λ a. string_bytes a.inner };
+    ghost view = { λ a. arc_str_bytes a.shared };
 }
 
 impl PartialEq for Text {
@@ -43,18 +45,20 @@ impl Eq for Text {
 
 impl Text {
     /// This string as a text.
-    pub fn of(inner: String) -> Text
-        ensures { result ≡ string_bytes inner }
+    pub fn of(inner: String) -> Result<Text, OutOfMemory>
+        ensures { IfOk result (λ t. t ≡ string_bytes inner) }
     {
-        Text { inner }
+        Ok(Text {
+            shared: ArcStr::from_string(inner)?,
+        })
     }
 
-    /// A text of its own with these characters.
+    /// A text with these characters.
     pub fn new(alloc: Global, text: &str) -> Result<Text, OutOfMemory>
         ensures { IfOk result (λ t. t ≡ text.now) }
     {
         Ok(Text {
-            inner: String::from_str(alloc, text)?,
+            shared: ArcStr::from_str(alloc, text)?,
         })
     }
 
@@ -62,14 +66,18 @@ impl Text {
     pub fn as_str(&self) -> &str
         ensures { result.now ≡ self.now }
     {
-        self.inner.as_str()
+        self.shared.as_str()
     }
 
-    /// An equal text of its own.
-    pub fn copy(&self, alloc: Global) -> Result<Text, OutOfMemory>
+    /// An equal text. It shares its characters with this one, and takes no memory for them.
+    ///
+    /// The allocator stands here for the callers that copy whatever is `Copied`, of which other things take memory.
+    pub fn copy(&self, _alloc: Global) -> Result<Text, OutOfMemory>
         ensures { IfOk result (λ t. t ≡ self.now) }
     {
-        Text::new(alloc, self.as_str())
+        Ok(Text {
+            shared: self.shared.clone()?,
+        })
     }
 }
 
@@ -123,7 +131,7 @@ impl Name {
         Name { text }
     }
 
-    /// A name of its own with these characters.
+    /// A name with these characters.
     pub fn new(alloc: Global, text: &str) -> Result<Name, OutOfMemory>
         ensures { IfOk result (λ n. n ≡ text.now) }
     {
@@ -139,11 +147,13 @@ impl Name {
         self.text.as_str()
     }
 
-    /// An equal name of its own.
+    /// An equal name. It shares its characters with this one, and takes no memory for them.
     pub fn copy(&self, alloc: Global) -> Result<Name, OutOfMemory>
         ensures { IfOk result (λ n. n ≡ self.now) }
     {
-        Name::new(alloc, self.as_str())
+        Ok(Name {
+            text: self.text.copy(alloc)?,
+        })
     }
 }
 

@@ -4,7 +4,9 @@
 mod books;
 mod pieces;
 mod rows;
+mod sent;
 
 pub use books::{ANN, CLUB, CONFIRMED, IDENTIFIER, SUBSCRIBE};
 pub use pieces::{quiet_plan, subscribe};
 pub use rows::{names, payload, row};
+pub use sent::{CHAT, Sent, faulty, piece};

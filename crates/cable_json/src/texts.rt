@@ -5,15 +5,19 @@ ghost use Rattle.cable_json.specs.Texts.{welcome_text, ping_text, confirm_text, 
 
 use crate::reasons::Reason;
 use cable_base::{OutOfMemory, Text};
-use serde_json::Value;
+use json::Writer;
 use std::alloc::Global;
 
 /// The text as a JSON string, with the shortest escapes (RFC 8259, section 7). HTML characters stand as they are.
 fn quoted_string(alloc: Global, text: &str) -> Result<String, OutOfMemory>
     ensures { IfOk result (λ s. string_bytes s ≡ quoted text.now) }
 {
-    let value = Value::String(String::from_str(alloc, text)?);
-    Ok(value.to_string(alloc)?)
+    let mut writer = Writer::new(Vec::new(alloc));
+    writer.string(text)?;
+    match String::from_utf8(writer.into_inner()) {
+        Ok(quoted) => Ok(quoted),
+        Err(_) => unreachable!(),
+    }
 }
 
 /// The text that greets a client.
@@ -27,7 +31,7 @@ pub fn welcome(alloc: Global) -> Result<Text, OutOfMemory>
 pub fn ping(alloc: Global, seconds: u64) -> Result<Text, OutOfMemory>
     ensures { IfOk result (λ t. t ≡ ping_text seconds) }
 {
-    Ok(Text::of(format!(in alloc; "{{\"type\":\"ping\",\"message\":{seconds}}}")?))
+    Text::of(format!(in alloc; "{{\"type\":\"ping\",\"message\":{seconds}}}")?)
 }
 
 /// The text that confirms the subscription with this identifier.
@@ -35,9 +39,9 @@ pub fn confirm(alloc: Global, identifier: &str) -> Result<Text, OutOfMemory>
     ensures { IfOk result (λ t. t ≡ confirm_text identifier.now) }
 {
     let identifier = quoted_string(alloc, identifier)?;
-    Ok(Text::of(format!(in alloc;
+    Text::of(format!(in alloc;
         "{{\"identifier\":{identifier},\"type\":\"confirm_subscription\"}}"
-    )?))
+    )?)
 }
 
 /// The text that refuses the subscription with this identifier.
@@ -45,9 +49,7 @@ pub fn reject(alloc: Global, identifier: &str) -> Result<Text, OutOfMemory>
     ensures { IfOk result (λ t. t ≡ reject_text identifier.now) }
 {
     let identifier = quoted_string(alloc, identifier)?;
-    Ok(Text::of(format!(in alloc;
-        "{{\"identifier\":{identifier},\"type\":\"reject_subscription\"}}"
-    )?))
+    Text::of(format!(in alloc; "{{\"identifier\":{identifier},\"type\":\"reject_subscription\"}}")?)
 }
 
 /// The text that carries a payload to the subscription with this identifier. The payload stands in it as it is, one level deeper:
@@ -57,7 +59,7 @@ pub fn message(alloc: Global, identifier: &str, payload: &str) -> Result<Text, O
     ensures { IfOk result (λ t. t ≡ message_text identifier.now payload.now) }
 {
     let identifier = quoted_string(alloc, identifier)?;
-    Ok(Text::of(format!(in alloc; "{{\"identifier\":{identifier},\"message\":{payload}}}")?))
+    Text::of(format!(in alloc; "{{\"identifier\":{identifier},\"message\":{payload}}}")?)
 }
 
 /// The text that ends a connection, and says whether the client is to connect again.
@@ -65,7 +67,7 @@ pub fn disconnect(alloc: Global, reason: Reason, reconnect: bool) -> Result<Text
     ensures { IfOk result (λ t. t ≡ disconnect_text reason reconnect) }
 {
     let reason = reason.word();
-    Ok(Text::of(format!(in alloc;
+    Text::of(format!(in alloc;
         "{{\"type\":\"disconnect\",\"reason\":\"{reason}\",\"reconnect\":{reconnect}}}"
-    )?))
+    )?)
 }

@@ -79,14 +79,12 @@ closed j closing.Restart lefts h = disconnect-apart reason.ServerRestart true j 
 closed j (closing.Remote reconnect) lefts h = disconnect-apart reason.Remote reconnect j (said-alone _ _ h)
 
 task-says : (c : Callbacks) (user j : List ℕ) (t : Task) → is_said (confirm_text j) (plan_for c user t).texts ≡ true → ((plan_for c user t).change ≡ change.Add j []) ⊎ (t ≡ task.Confirm j)
-task-says c user j task.Nothing h = absurd (cc (h))
-task-says c user j (task.Note why) h = absurd (cc (h))
 task-says c user j (task.Subscribe identifier) h = inl (subscribed j identifier (c.subscribed user identifier) (c.unsubscribed user identifier) h)
-task-says c user j (task.Unsubscribe identifier) h = absurd (cc (h))
 task-says c user j (task.Perform identifier payload streams) h = absurd (performed j identifier streams (c.perform user identifier payload) h)
 task-says c user j (task.Row identifier payload) h = absurd (said-none identifier j (payload ∷ []) h)
 task-says c user j (task.Confirm identifier) h = inr (ap task.Confirm (confirm-same identifier j (said-alone (confirm_text j) (confirm_text identifier) h)))
 task-says c user j (task.Close how identifiers) h = absurd (closed j how (map (c.unsubscribed user) identifiers) h)
+task-says c user j _ h = absurd (cc (h))
 
 -- ---- pieces
 
@@ -96,10 +94,7 @@ Confirmless t = (j : List ℕ) → t ≡ task.Confirm j → ⊥
 
 fault-confirmless : (fault : CommandFault) → Confirmless (fault_task fault)
 fault-confirmless command_fault.BadJson j h = absurd (cc (h))
-fault-confirmless command_fault.UnknownCommand j h = absurd (cc (h))
-fault-confirmless command_fault.NoIdentifier j h = absurd (cc (h))
-fault-confirmless command_fault.BadData j h = absurd (cc (h))
-fault-confirmless command_fault.OutOfMemory j h = absurd (cc (h))
+fault-confirmless _ j h = absurd (cc (h))
 
 subscribe-confirmless : (identifier : List ℕ) (standing : ℕ) (o : Option Sub) → Confirmless (subscribe_task identifier standing o)
 subscribe-confirmless identifier standing (Some s) = λ j h. absurd (cc (h))
@@ -136,9 +131,7 @@ piece-confirms j k (piece.Confirm sub) h = go (sub_numbered sub.0 k) refl
         let h' : task.Confirm x.identifier ≡ task.Confirm j = rw e at h in
         let same : x.identifier ≡ j = cc (h') in
         (sub, refl, subst (λ i. StandsUnder sub.0 i k) same (found-stands sub.0 k x e))
-piece-confirms j k (piece.Remote reconnect) h = absurd (cc (h))
-piece-confirms j k piece.Gone h = absurd (cc (h))
-piece-confirms j k piece.Restart h = absurd (cc (h))
+piece-confirms j k _ h = absurd (cc (h))
 
 -- ---- over a history
 

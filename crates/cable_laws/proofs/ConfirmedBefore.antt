@@ -1,12 +1,11 @@
 -- Before a row is finished, the confirmation of its subscription was said under the identifier that stands.
-use Rattle.std.proofs.Common.{ℕ, ◌≡◌, ◌<◌, ◌≤◌, ◌==◌, Bool, true, false, cond, ◌⊎◌, List, [], ◌∷◌, ◌++◌, map, Some, None, Option, refl, ap, sym, subst, ◌∙◌, arith, inl, inr, find, append_assoc, bytes_eq, not, is_some}
+use Rattle.std.proofs.Common.{ℕ, ◌≡◌, ◌<◌, ◌≤◌, ◌==◌, Bool, true, false, cond, ◌⊎◌, List, [], ◌∷◌, ◌++◌, map, Some, None, Option, refl, ap, sym, subst, ◌∙◌, arith, inl, inr, find, append_assoc, bytes_eq, not}
 use Rattle.std.specs.List.{filter, AllByRecursion}
 use Rattle.std.proofs.lemmas.Bool.Decides.{nat_tests}
 use Rattle.cable_base.specs.declared.numbers.RowId.{RowId}
 use Rattle.cable_base.specs.declared.numbers.SubNo.{SubNo}
 use Rattle.cable_base.proofs.Each.{All-append, All-filter, All-implied}
 use Rattle.cable_base.proofs.Rises.{Rises}
-use Rattle.cable_json.specs.Commands.{command_of}
 use Rattle.cable_json.specs.Texts.{confirm_text}
 use Rattle.cable_model.specs.declared.events.Event.{Event}
 use Rattle.cable_model.specs.declared.pieces.Piece.TheVariants as piece
@@ -15,15 +14,15 @@ use Rattle.cable_model.specs.declared.plans.Change.TheVariants as change
 use Rattle.cable_model.specs.declared.plans.Plan.{Plan}
 use Rattle.cable_model.specs.Steps.{Step}
 use Rattle.cable_model.specs.Connection.{Sub, Conn, Planner, changed, first_above, still, streamed, wanted, without}
-use Rattle.cable_model.specs.Pieces.{Seat, deliver_puts, seat, with_all, with_job, with_plan, with_put}
+use Rattle.cable_model.specs.Pieces.{Seat, seat, with_plan}
 use Rattle.cable_model.specs.Plans.{Callbacks, confirm_task, plan_for, task_of}
 use Rattle.cable_model.specs.Possible.{job_plan}
-use Rattle.cable_model.specs.Wants.{marks, turn_mark, user_of}
 use Rattle.cable_model.specs.Window.{finished, job}
 use Rattle.cable_model.specs.Promise.{AllWorked, due_in}
 use Rattle.cable_model.specs.History.{Rules}
 use Rattle.cable_model.specs.HistoryLaws.{is_said}
 use Rattle.cable_model.specs.Journal.{node_journal}
+use Rattle.cable_model.proofs.Entries.{Unfinished, unfinished}
 use Rattle.cable_model.proofs.Inbox.{valid-at}
 use Rattle.cable_model.proofs.Jobs.{job-piece}
 use Rattle.cable_model.proofs.Valid.{streamed-number}
@@ -114,40 +113,18 @@ number-once s i b (x ∷ xs) e y r (inr later) q =
 
 -- ---- what an entry makes of a connection
 
--- the connection stays, and no piece is finished
-record Keeps (s now : Seat) : Type 0 where
-  conn : now.conn ≡ s.conn
-  done : now.done ≡ s.done
-
 record IsFinish (c : ℕ) (e : Step) : Type 0 where
   puts : List (Option RowId)
   plan : Plan
   is : e ≡ Step.Finish c puts plan
 
-either : (b : Bool) (x s : Seat) → Keeps s x → Keeps s (cond b x s)
-either true x s k = k
-either false x s k = record { conn = refl; done = refl }
-
-missed : (b : Bool) (x s : Seat) → Keeps s x → Keeps s (cond b s x)
-missed true x s k = record { conn = refl; done = refl }
-missed false x s k = k
-
-entry : (c : ℕ) (e : Step) (past : List Step) → Keeps (seat c past) (seat c (e ∷ past)) ⊎ IsFinish c e
-entry c (Step.Boot last) past = inl (record { conn = refl; done = refl })
-entry c (Step.Open d token user) past = inl (record { conn = refl; done = refl })
-entry c (Step.In d text) past = inl (either (d == c) (with_put (seat c past) (piece.Cmd (command_of text))) (seat c past) (record { conn = refl; done = refl }))
-entry c (Step.Drop d) past = inl (either (d == c) (with_put (seat c past) piece.Gone) (seat c past) (record { conn = refl; done = refl }))
-entry c Step.Stop past = inl (either (is_some (user_of c past)) (with_put (seat c past) piece.Restart) (seat c past) (record { conn = refl; done = refl }))
-entry c (Step.Take d) past = inl (either (d == c) (with_job (seat c past)) (seat c past) (record { conn = refl; done = refl }))
+entry : (c : ℕ) (e : Step) (past : List Step) → Unfinished (seat c past) (seat c (e ∷ past)) ⊎ IsFinish c e
 entry c (Step.Finish d puts plan) past = go (d == c) refl
   where
-    go : (b : Bool) → (d == c) ≡ b → Keeps (seat c past) (seat c (Step.Finish d puts plan ∷ past)) ⊎ IsFinish c (Step.Finish d puts plan)
+    go : (b : Bool) → (d == c) ≡ b → Unfinished (seat c past) (seat c (Step.Finish d puts plan ∷ past)) ⊎ IsFinish c (Step.Finish d puts plan)
     go true b = let same : d ≡ c = grind (arith, nat_tests) in inr (record { puts = puts; plan = plan; is = ap (λ x. Step.Finish x puts plan) same })
-    go false b = inl (subst (λ t. Keeps (seat c past) (cond t (with_plan (seat c past) plan) (seat c past))) (sym b) (record { conn = refl; done = refl }))
-entry c (Step.Ask turn) past = inl (record { conn = refl; done = refl })
-entry c (Step.Deliver turn note) past =
-    inl (missed note.failed (with_all (seat c past) (deliver_puts (user_of c past) (marks c past) (turn_mark c note past) (seat c past).conn.subs note.rows)) (seat c past) (record { conn = refl; done = refl }))
-entry c (Step.Beat now) past = inl (record { conn = refl; done = refl })
+    go false b = inl (subst (λ t. Unfinished (seat c past) (cond t (with_plan (seat c past) plan) (seat c past))) (sym b) (record { conn = refl; done = refl }))
+entry c e past = inl (unfinished c e past refl)
 
 finish-seat : (c : ℕ) (puts : List (Option RowId)) (plan : Plan) (past : List Step) → seat c (Step.Finish c puts plan ∷ past) ≡ with_plan (seat c past) plan
 finish-seat c puts plan past = let own : (c == c) ≡ true = grind (arith, nat_tests) in rw own refl

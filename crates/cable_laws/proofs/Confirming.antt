@@ -59,19 +59,13 @@ module _ (pl : Planner) (s w : ℕ) where
   -- a piece that is no command
   abbrev told_by_node : Piece → Bool
   told_by_node (piece.Cmd read) = false
-  told_by_node (piece.Row sub want row) = true
-  told_by_node (piece.Confirm sub) = true
-  told_by_node (piece.Remote reconnect) = true
-  told_by_node piece.Gone = true
-  told_by_node piece.Restart = true
+  told_by_node _ = true
 
   worked-due : (n : ℕ) (k : Conn) (q : Piece) (d : Option ℕ) → told_by_node q ≡ true → due_in s (worked pl n k q).subs ≡ Some d → due_in s k.subs ≡ Some d
   worked-due n k (piece.Cmd read) d t h = absurd (cc (t))
   worked-due n k (piece.Row sub want row) d t h = h
   worked-due n k (piece.Confirm sub) d t h = h
-  worked-due n k (piece.Remote reconnect) d t h = absurd (cc (h))
-  worked-due n k piece.Gone d t h = absurd (cc (h))
-  worked-due n k piece.Restart d t h = absurd (cc (h))
+  worked-due n k _ d t h = absurd (cc (h))
 
   put-due : (ps : List Piece) (q : Piece) (d : Option ℕ) → told_by_node q ≡ true → due_in s (fold pl (put ps q)).subs ≡ Some d → due_in s (fold pl ps).subs ≡ Some d
   put-due ps q d t h = go (closing ps) refl
@@ -86,19 +80,11 @@ module _ (pl : Planner) (s w : ℕ) where
 
   abbrev is_confirm : Piece → Bool
   is_confirm (piece.Confirm sub) = sub.0 == s
-  is_confirm (piece.Cmd read) = false
-  is_confirm (piece.Row sub want row) = false
-  is_confirm (piece.Remote reconnect) = false
-  is_confirm piece.Gone = false
-  is_confirm piece.Restart = false
+  is_confirm _ = false
 
   confirm-counts : (k : Conn) (q : Piece) → is_confirm q ≡ true → stands_sub s k ≡ true → confirms s k q ≡ true
   confirm-counts k (piece.Confirm sub) h st = rw (h, st) refl
-  confirm-counts k (piece.Cmd read) h st = h
-  confirm-counts k (piece.Row sub want row) h st = h
-  confirm-counts k (piece.Remote reconnect) h st = h
-  confirm-counts k piece.Gone h st = h
-  confirm-counts k piece.Restart h st = h
+  confirm-counts k _ h st = h
 
   or-true : (b : Bool) → (b || true) ≡ true
   or-true true = refl
@@ -121,18 +107,11 @@ module _ (pl : Planner) (s w : ℕ) where
   abbrev Marked : List Mark → Piece → Type 0
   Marked ms (piece.Row sub want row) = want.0 ≡ w → is_some (mark_of w ms) ≡ true
   Marked ms (piece.Cmd read) = ⊥
-  Marked ms (piece.Confirm sub) = Unit {0}
-  Marked ms (piece.Remote reconnect) = Unit {0}
-  Marked ms piece.Gone = Unit {0}
-  Marked ms piece.Restart = Unit {0}
+  Marked ms _ = Unit {0}
 
   marked-told : (ms : List Mark) (q : Piece) → Marked ms q → told_by_node q ≡ true
   marked-told ms (piece.Cmd read) m = absurd m
-  marked-told ms (piece.Row sub want row) m = refl
-  marked-told ms (piece.Confirm sub) m = refl
-  marked-told ms (piece.Remote reconnect) m = refl
-  marked-told ms piece.Gone m = refl
-  marked-told ms piece.Restart m = refl
+  marked-told ms _ m = refl
 
   all-told : (ms : List Mark) (qs : List Piece) → AllByRecursion (Marked ms) qs → AllByRecursion (λ q. told_by_node q ≡ true) qs
   all-told ms [] h = tt
@@ -168,10 +147,6 @@ module _ (pl : Planner) (s w : ℕ) where
 
       after : (p : Piece) → Marked ms p → AfterConfirm s w (fold pl ps) (confirmed ps) p
       after (piece.Cmd read) m = absurd m
-      after (piece.Confirm sub) m = tt
-      after (piece.Remote reconnect) m = tt
-      after piece.Gone m = tt
-      after piece.Restart m = tt
       after (piece.Row sub want row) m = λ a b st. go b st (name_of s w (fold pl ps)) refl
         where
           go : want.0 ≡ w → stands_want s w (fold pl ps) ≡ true → (x : Option (List ℕ)) → name_of s w (fold pl ps) ≡ x → (due_in s (fold pl ps).subs ≡ Some None) ⊎ (confirmed ps ≡ true)
@@ -184,9 +159,7 @@ module _ (pl : Planner) (s w : ℕ) where
                   let l = due-below (fold pl ps).made s w n name (fold pl ps).subs dues x e in
                   let mk = mark-below n ms l (m b) in
                   inr (on (told n mk.0 (back (Some n) e) mk.1))
-
-  abbrev pub now_of : ReadNote → ℕ → List Step → List Mark
-  now_of note c past = turn_mark c note past
+      after _ m = tt
 
   holds-marked : (ms : List Mark) (row : Row) (x : ℕ) (ws : List Want) → AllByRecursion (Marked ms) (hold_puts ms row x ws)
   holds-marked ms row x [] = tt
@@ -325,8 +298,6 @@ module _ (pl : Planner) (s w : ℕ) where
 
   pub telling : (c : ℕ) (past : List Step) → AllWorked pl c past → ToldAt c past
   telling c [] a = record { order = tt; told = λ n m d. absurd (cc (d)) }
-  telling c (Step.Boot last ∷ past) a = telling c past a.1
-  telling c (Step.Open d token user ∷ past) a = telling c past a.1
   telling c (Step.In d text ∷ past) a = putting (d == c) (piece.Cmd (command_of text)) c past (λ k seen. tt) (working pl c past a.1) (telling c past a.1)
   telling c (Step.Drop d ∷ past) a = putting (d == c) piece.Gone c past (λ k seen. tt) (working pl c past a.1) (telling c past a.1)
   telling c (Step.Stop ∷ past) a = putting (is_some (user_of c past)) piece.Restart c past (λ k seen. tt) (working pl c past a.1) (telling c past a.1)
@@ -334,8 +305,6 @@ module _ (pl : Planner) (s w : ℕ) where
       let t = telling c past a.1 in elim (d == c) as (λ b. Told (cond b (with_job (seat c past)) (seat c past)).pieces (marks c past)) [ true ↦ t | false ↦ t ]
   telling c (Step.Finish d puts plan ∷ past) a =
       let t = telling c past a.1 in elim (d == c) as (λ b. Told (cond b (with_plan (seat c past) plan) (seat c past)).pieces (marks c past)) [ true ↦ t | false ↦ t ]
-  telling c (Step.Ask turn ∷ past) a = telling c past a.1
-  telling c (Step.Beat n ∷ past) a = telling c past a.1
   telling c (Step.Deliver turn note ∷ past) a = go note.failed refl (telling c past a.1)
     where
       now : Bool → List Piece
@@ -344,3 +313,4 @@ module _ (pl : Planner) (s w : ℕ) where
       go : (b : Bool) → note.failed ≡ b → ToldAt c past → ToldAt c (Step.Deliver turn note ∷ past)
       go true f t = subst (λ b. Told (now b) (marks c (Step.Deliver turn note ∷ past))) (sym f) (subst (Told (seat c past).pieces) (sym (missed-marks c turn note past f)) t)
       go false f t = subst (λ b. Told (now b) (marks c (Step.Deliver turn note ∷ past))) (sym f) (deliver-told c turn note past (working pl c past a.1) t)
+  telling c (_ ∷ past) a = telling c past a.1

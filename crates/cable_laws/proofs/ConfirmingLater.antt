@@ -25,12 +25,11 @@ use Rattle.cable_model.specs.Window.{finished}
 use Rattle.cable_model.specs.History.{Rules, start, run}
 use Rattle.cable_model.specs.HistoryLaws.{planner_of, IsConfirmedBehind, AllConfirmLater, ConfirmsBehindDeliver}
 use Rattle.cable_model.specs.Promise.{AllWorked, due_in}
-use Rattle.cable_model.proofs.Valid.{Valid}
+use Rattle.cable_model.proofs.Valid.{Valid, Valid-upto}
 use Rattle.cable_model.proofs.Working.{working}
 use Rattle.cable_model.proofs.Inbox.{Known, AllKnown, known, valid-at}
 use Rattle.cable_model.proofs.Marks.{mark_of-append, first_mark, missed-marks}
 use Rattle.cable_model.proofs.Dues.{due_in-filter, due_in-map}
-use Rattle.cable_model.proofs.Holding.{Valid-upto}
 use Rattle.cable_model.proofs.Jobs.{job-piece}
 use Rattle.cable_laws.proofs.Growing.{AllPlanned, run-planned}
 use Rattle.cable_laws.proofs.Unconfirmed.{job-waits}
@@ -81,11 +80,7 @@ first-due s xs d first a b = cc (a, b)
 -- where its subscription stands, its Subscribe made a want, and a turn took the first of them
 abbrev Taken : Conn → List Mark → Piece → Type 0
 Taken k ms (piece.Confirm sub) = (d : Option ℕ) → due_in sub.0 k.subs ≡ Some d → (first : ℕ) × (d ≡ Some first) × (is_some (mark_of first ms) ≡ true)
-Taken k ms (piece.Cmd read) = Unit {0}
-Taken k ms (piece.Row sub want row) = Unit {0}
-Taken k ms (piece.Remote reconnect) = Unit {0}
-Taken k ms piece.Gone = Unit {0}
-Taken k ms piece.Restart = Unit {0}
+Taken k ms _ = Unit {0}
 
 abbrev AllTaken : Conn → List Mark → List Piece → Type 0
 AllTaken k ms ps = AllByRecursion (Taken k ms) ps
@@ -154,11 +149,7 @@ more-taken k ms now (p ∷ ps) a = (one p a.0, more-taken k ms now ps a.1)
   where
     one : (q : Piece) → Taken k ms q → Taken k (ms ++ now) q
     one (piece.Confirm sub) t = λ d e. let r = t d e in (r.0, r.1, mark-behind r.0 ms now r.2)
-    one (piece.Cmd read) t = tt
-    one (piece.Row sub want row) t = tt
-    one (piece.Remote reconnect) t = tt
-    one piece.Gone t = tt
-    one piece.Restart t = tt
+    one _ t = tt
 
 -- the confirmations that a turn takes
 confirms-taken : (k : Conn) (ms now : List Mark) (xs : List Sub) → AllByRecursion (λ (x : Sub). due_in x.number k.subs ≡ Some x.due) xs → AllTaken k (ms ++ now) (confirm_puts ms now xs)
@@ -180,11 +171,7 @@ changed-taken n k c ms (p ∷ ps) made v l a = (one p l.0 a.0, changed-taken n k
   where
     one : (q : Piece) → Known made n q → Taken k ms q → Taken (changed c (suc n) k) ms q
     one (piece.Confirm sub) l t = λ d e. t d (due-kept n sub.0 k c d v l e)
-    one (piece.Cmd read) l t = tt
-    one (piece.Row sub want row) l t = tt
-    one (piece.Remote reconnect) l t = tt
-    one piece.Gone l t = tt
-    one piece.Restart l t = tt
+    one _ l t = tt
 
 known-upto : (made m n : ℕ) (ps : List Piece) → m ≤ n → AllKnown made m ps → AllKnown made n ps
 known-upto made m n [] l a = tt
@@ -192,11 +179,8 @@ known-upto made m n (p ∷ ps) l a = (one p a.0, known-upto made m n ps l a.1)
   where
     one : (q : Piece) → Known made m q → Known made n q
     one (piece.Confirm sub) h = omega arith
-    one (piece.Cmd read) h = tt
     one (piece.Row sub want row) h = h
-    one (piece.Remote reconnect) h = tt
-    one piece.Gone h = tt
-    one piece.Restart h = tt
+    one _ h = tt
 
 -- ---- over a journal
 
@@ -210,8 +194,6 @@ one-taken c past q false t a = a
 
 taken-at : (pl : Planner) (c : ℕ) (past : List Step) → AllWorked pl c past → TakenAt c past
 taken-at pl c [] a = tt
-taken-at pl c (Step.Boot last ∷ past) a = taken-at pl c past a.1
-taken-at pl c (Step.Open d token user ∷ past) a = taken-at pl c past a.1
 taken-at pl c (Step.In d text ∷ past) a = one-taken c past (piece.Cmd (command_of text)) (d == c) tt (taken-at pl c past a.1)
 taken-at pl c (Step.Drop d ∷ past) a = one-taken c past piece.Gone (d == c) tt (taken-at pl c past a.1)
 taken-at pl c (Step.Stop ∷ past) a = one-taken c past piece.Restart (is_some (user_of c past)) tt (taken-at pl c past a.1)
@@ -232,8 +214,6 @@ taken-at pl c (Step.Finish d puts plan ∷ past) a = go (d == c) refl (taken-at 
         let kn = known-upto (seat c past).conn.made (seat c past).done n (seat c past).pieces below (known pl c past a.1) in
         let r = changed-taken n (seat c past).conn plan.change (marks c past) (seat c past).pieces (seat c past).conn.made v kn ih in
         rw b (subst (λ m. AllTaken (changed plan.change m (seat c past).conn) (marks c past) (seat c past).pieces) (sym p) r)
-taken-at pl c (Step.Ask turn ∷ past) a = taken-at pl c past a.1
-taken-at pl c (Step.Beat now ∷ past) a = taken-at pl c past a.1
 taken-at pl c (Step.Deliver turn note ∷ past) a = go note.failed refl (taken-at pl c past a.1)
   where
     ms : List Mark
@@ -255,6 +235,7 @@ taken-at pl c (Step.Deliver turn note ∷ past) a = go note.failed refl (taken-a
         let all = puts-taken (seat c past).conn (ms ++ now) (seat c past).pieces (deliver_puts (user_of c past) ms now subs note.rows) (more-taken (seat c past).conn ms now (seat c past).pieces ih) new in
         let puts = deliver_puts (user_of c past) ms now subs note.rows in
         subst (λ x. AllTaken (cond x (seat c past) (with_all (seat c past) puts)).conn (ms ++ now) (cond x (seat c past) (with_all (seat c past) puts)).pieces) (sym f) all
+taken-at pl c (_ ∷ past) a = taken-at pl c past a.1
 
 -- ---- what is finished
 
@@ -271,16 +252,8 @@ confirmed-behind pl c d puts plan past a same sub is =
 
 pub confirm-later : (r : Callbacks) (pl : Planner) (c : ℕ) (past : List Step) → AllWorked pl c past → AllPlanned r past → AllConfirmLater c past
 confirm-later r pl c [] a p = tt
-confirm-later r pl c (Step.Boot last ∷ past) a p = (tt, confirm-later r pl c past a.1 p.1)
-confirm-later r pl c (Step.Open d token user ∷ past) a p = (tt, confirm-later r pl c past a.1 p.1)
-confirm-later r pl c (Step.In d text ∷ past) a p = (tt, confirm-later r pl c past a.1 p.1)
-confirm-later r pl c (Step.Drop d ∷ past) a p = (tt, confirm-later r pl c past a.1 p.1)
-confirm-later r pl c (Step.Stop ∷ past) a p = (tt, confirm-later r pl c past a.1 p.1)
-confirm-later r pl c (Step.Take d ∷ past) a p = (tt, confirm-later r pl c past a.1 p.1)
 confirm-later r pl c (Step.Finish d puts plan ∷ past) a p = (λ same. (job-waits r d past plan p.0, confirmed-behind pl c d puts plan past a same), confirm-later r pl c past a.1 p.1)
-confirm-later r pl c (Step.Ask turn ∷ past) a p = (tt, confirm-later r pl c past a.1 p.1)
-confirm-later r pl c (Step.Deliver turn note ∷ past) a p = (tt, confirm-later r pl c past a.1 p.1)
-confirm-later r pl c (Step.Beat now ∷ past) a p = (tt, confirm-later r pl c past a.1 p.1)
+confirm-later r pl c (_ ∷ past) a p = (tt, confirm-later r pl c past a.1 p.1)
 
 -- ---- over a history
 

@@ -1,5 +1,5 @@
 -- On a connection no two subscriptions have one identifier or one number, none wants a stream twice, and no two wants have one number.
-use Rattle.std.proofs.Common.{ℕ, suc, ◌+◌, ◌-◌, ◌≡◌, ◌<◌, ◌≤◌, ◌==◌, Bool, true, false, cond, not, List, [], ◌∷◌, ◌++◌, append-nil, map, length, Some, None, Option, refl, ap, sym, subst, ◌∙◌, arith, bytes_eq, is_some, find}
+use Rattle.std.proofs.Common.{ℕ, suc, ◌+◌, ◌-◌, ◌≡◌, ◌<◌, ◌≤◌, ◌==◌, Bool, true, false, cond, not, List, [], ◌∷◌, ◌++◌, append-nil, map, length, Some, None, Option, refl, ap, sym, subst, ◌∙◌, arith, bytes_eq, find}
 use Rattle.std.specs.List.{list_any, AllByRecursion, IsDistinct}
 use Rattle.std.proofs.lemmas.Bool.Decides.{nat_tests}
 use Rattle.std.proofs.lemmas.Cmp.{nat_list_eq_equiv}
@@ -8,28 +8,26 @@ use Rattle.std.proofs.lemmas.List.{map-append}
 use Rattle.std.proofs.lemmas.Map.Keys.{IsDistinct-push}
 use Rattle.cable_base.proofs.Each.{All-append, All-back, All-filter, All-implied}
 use Rattle.cable_base.proofs.Rises.{Rises}
-use Rattle.cable_json.specs.Commands.{command_of}
 use Rattle.cable_model.specs.declared.events.Event.{Event}
 use Rattle.cable_model.specs.declared.pieces.Piece.{Piece}
-use Rattle.cable_model.specs.declared.pieces.Piece.TheVariants as piece
 use Rattle.cable_model.specs.declared.plans.Change.{Change}
 use Rattle.cable_model.specs.declared.plans.Change.TheVariants as change
 use Rattle.cable_model.specs.declared.plans.Plan.{Plan}
 use Rattle.cable_model.specs.Steps.{Step}
 use Rattle.cable_model.specs.Connection.{Want, Sub, Conn, Planner, wanted, first_above, among, without, streamed, changed}
-use Rattle.cable_model.specs.Wants.{marks, turn_mark, user_of}
-use Rattle.cable_model.specs.Pieces.{seat, with_put, with_all, with_job, deliver_puts}
+use Rattle.cable_model.specs.Wants.{user_of}
+use Rattle.cable_model.specs.Pieces.{seat}
 use Rattle.cable_model.specs.Plans.{Callbacks, names_of, plan_of, unstopped}
 use Rattle.cable_model.specs.Possible.{has_job, job_plan}
 use Rattle.cable_model.specs.Window.{job, finished}
 use Rattle.cable_model.specs.History.{Rules, start, run}
 use Rattle.cable_model.specs.HistoryLaws.{planner_of}
 use Rattle.cable_model.specs.Promise.{AllWorked}
-use Rattle.cable_model.proofs.Holding.{Valid-upto}
+use Rattle.cable_model.proofs.Entries.{unfinished}
 use Rattle.cable_model.proofs.Inbox.{valid-at}
 use Rattle.cable_model.proofs.NodeSound.{plans-for}
 use Rattle.cable_model.proofs.Sound.{start-sound, run-sound}
-use Rattle.cable_model.proofs.Valid.{Valid, changed-valid, wanted-rises}
+use Rattle.cable_model.proofs.Valid.{Valid, changed-valid, wanted-rises, Valid-upto}
 use Rattle.cable_model.proofs.Working.{working}
 use Rattle.cable_laws.specs.Differ.{AreDistinct, AreDistinctTexts, identifiers, numbers_of, want_numbers, Differ, AllDiffer}
 use Rattle.cable_laws.proofs.Growing.{AllPlanned, run-planned}
@@ -201,12 +199,6 @@ planned-fits r c plan past e d = go (has_job (seat c past)) refl (user_of c past
 
 seat-differ : (r : Callbacks) (pl : Planner) (c : ℕ) (past : List Step) → AllPlanned r past → AllWorked pl c past → Differ (seat c past).conn
 seat-differ r pl c [] p a = record { identifiers = empty-distinct bytes_eq; numbers = empty-distinct (λ a b. a == b); streams = tt; wants = empty-distinct (λ a b. a == b) }
-seat-differ r pl c (Step.Boot last ∷ past) p a = seat-differ r pl c past p.1 a.1
-seat-differ r pl c (Step.Open d token user ∷ past) p a = seat-differ r pl c past p.1 a.1
-seat-differ r pl c (Step.In d text ∷ past) p a = elim (d == c) as (λ b. Differ (cond b (with_put (seat c past) (piece.Cmd (command_of text))) (seat c past)).conn) [ true ↦ seat-differ r pl c past p.1 a.1 | false ↦ seat-differ r pl c past p.1 a.1 ]
-seat-differ r pl c (Step.Drop d ∷ past) p a = elim (d == c) as (λ b. Differ (cond b (with_put (seat c past) piece.Gone) (seat c past)).conn) [ true ↦ seat-differ r pl c past p.1 a.1 | false ↦ seat-differ r pl c past p.1 a.1 ]
-seat-differ r pl c (Step.Stop ∷ past) p a = elim (is_some (user_of c past)) as (λ b. Differ (cond b (with_put (seat c past) piece.Restart) (seat c past)).conn) [ true ↦ seat-differ r pl c past p.1 a.1 | false ↦ seat-differ r pl c past p.1 a.1 ]
-seat-differ r pl c (Step.Take d ∷ past) p a = elim (d == c) as (λ b. Differ (cond b (with_job (seat c past)) (seat c past)).conn) [ true ↦ seat-differ r pl c past p.1 a.1 | false ↦ seat-differ r pl c past p.1 a.1 ]
 seat-differ r pl c (Step.Finish d puts plan ∷ past) p a = go (d == c) refl (seat-differ r pl c past p.1 a.1)
   where
     go : (b : Bool) → (d == c) ≡ b → Differ (seat c past).conn → Differ (seat c (Step.Finish d puts plan ∷ past)).conn
@@ -221,13 +213,7 @@ seat-differ r pl c (Step.Finish d puts plan ∷ past) p a = go (d == c) refl (se
         let new : Differ (changed plan.change (suc n) (seat c past).conn) = changed-differ n (seat c past).conn plan.change v (planned-fits r c plan past is ih) ih in
         rw b (subst (λ m. Differ (changed plan.change m (seat c past).conn)) (sym place) new)
     go false b ih = rw b ih
-seat-differ r pl c (Step.Ask turn ∷ past) p a = seat-differ r pl c past p.1 a.1
-seat-differ r pl c (Step.Deliver turn note ∷ past) p a =
-    elim note.failed as (λ b. Differ (cond b (seat c past) (with_all (seat c past) (deliver_puts (user_of c past) (marks c past) (turn_mark c note past) (seat c past).conn.subs note.rows))).conn) [
-      | true ↦ seat-differ r pl c past p.1 a.1
-      | false ↦ seat-differ r pl c past p.1 a.1
-    ]
-seat-differ r pl c (Step.Beat now ∷ past) p a = seat-differ r pl c past p.1 a.1
+seat-differ r pl c (e ∷ past) p a = subst Differ (sym (unfinished c e past refl).conn) (seat-differ r pl c past p.1 a.1)
 
 pub all-differ : (r : Rules) (events : List Event) → AllDiffer r events
 all-differ r events n c =

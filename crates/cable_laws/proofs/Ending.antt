@@ -24,24 +24,15 @@ use Rattle.cable_model.proofs.Sound.{Sound, start-sound, run-sound, happen-sound
 
 -- no entry takes back a number that was given to a want
 pub made-grows : (c : ℕ) (e : Step) (past : List Step) → made c past ≤ made c (e ∷ past)
-made-grows c (Step.Boot last) past = omega arith
-made-grows c (Step.Open d token user) past = omega arith
-made-grows c (Step.In d text) past = omega arith
-made-grows c (Step.Drop d) past = omega arith
-made-grows c Step.Stop past = omega arith
-made-grows c (Step.Take d) past = omega arith
 made-grows c (Step.Finish d puts plan) past = go (d == c) refl
   where
     go : (b : Bool) → (d == c) ≡ b → made c past ≤ made c (Step.Finish d puts plan ∷ past)
     go true b = rw b (omega arith)
     go false b = rw b (omega arith)
-made-grows c (Step.Ask turn) past = omega arith
-made-grows c (Step.Deliver turn note) past = omega arith
-made-grows c (Step.Beat now) past = omega arith
+made-grows c _ past = omega arith
 
 -- a row whose want doesn't stand is no job
 ended-row : (s w : ℕ) (k : Conn) (q : Piece) → still k q ≡ true → name_of s w k ≡ None → row_in s w q ≡ []
-ended-row s w k (piece.Cmd read) h e = refl
 ended-row s w k (piece.Row sub want row) h e = go (sub.0 == s) refl (want.0 == w) refl
   where
     go : (a : Bool) → (sub.0 == s) ≡ a → (b : Bool) → (want.0 == w) ≡ b → row_in s w (piece.Row sub want row) ≡ []
@@ -53,10 +44,7 @@ ended-row s w k (piece.Row sub want row) h e = go (sub.0 == s) refl (want.0 == w
         absurd (cc (h''))
     go true a false b = rw (a, b) refl
     go false a b b' = rw a refl
-ended-row s w k (piece.Confirm sub) h e = refl
-ended-row s w k (piece.Remote reconnect) h e = refl
-ended-row s w k piece.Gone h e = refl
-ended-row s w k piece.Restart h e = refl
+ended-row s w k _ h e = refl
 
 -- the want was made and doesn't stand
 pub record HasEnded (c s w : ℕ) (past : List Step) : Type 0 where
@@ -74,12 +62,6 @@ module _ (pl : Planner) (c s w : ℕ) where
 
   -- and nothing more is finished for it
   pub finished-stays : (e : Step) (past : List Step) → AllWorked pl c (e ∷ past) → HasEnded c s w past → finished c s w (e ∷ past) ≡ finished c s w past
-  finished-stays (Step.Boot last) past a h = refl
-  finished-stays (Step.Open d token user) past a h = refl
-  finished-stays (Step.In d text) past a h = refl
-  finished-stays (Step.Drop d) past a h = refl
-  finished-stays Step.Stop past a h = refl
-  finished-stays (Step.Take d) past a h = refl
   finished-stays (Step.Finish d puts plan) past a h = go (d == c) refl
     where
       go : (b : Bool) → (d == c) ≡ b → finished c s w (Step.Finish d puts plan ∷ past) ≡ finished c s w past
@@ -87,9 +69,7 @@ module _ (pl : Planner) (c s w : ℕ) where
           let j = job-piece pl (seat c past) (λ sub want. finished c sub want past) (working pl c past a.1) (a.0 (grind (arith, nat_tests))).0 in
           rw b (ap (λ o. finished c s w past ++ row_worked s w o) j.is ∙ (ap (λ rows. finished c s w past ++ rows) (ended-row s w (seat c past).conn j.piece j.stands h.over) ∙ append-nil (finished c s w past)))
       go false b = rw b refl
-  finished-stays (Step.Ask turn) past a h = refl
-  finished-stays (Step.Deliver turn note) past a h = refl
-  finished-stays (Step.Beat now) past a h = refl
+  finished-stays _ past a h = refl
 
 -- ---- over a history
 

@@ -57,13 +57,10 @@ module _ (r : Rules) where
   happened-grown w (event.Take conn) m = logged-grown w (home_of w conn.0) (Step.Take conn.0) m tt
   happened-grown w (event.Put conn at) m = committed-grown w conn.0 at.0 (next_cast (w.puts conn.0) (job_plan r.callbacks conn.0 (w.nodes (home_of w conn.0)))) m
   happened-grown w (event.Finish conn) m = finish-grown w (home_of w conn.0) conn.0 (job_plan r.callbacks conn.0 (w.nodes (home_of w conn.0))) m refl
-  happened-grown w (event.Cast at channel payload) m = inl refl
-  happened-grown w (event.Trim now retention batch) m = inl refl
   happened-grown w (event.Ask node) m = logged-grown w node.0 (Step.Ask (suc (last_turn (w.nodes node.0)))) m tt
-  happened-grown w (event.Read node) m = inl refl
   happened-grown w (event.Deliver node) m = deliver-grown w node.0 (caught w node.0) m
   happened-grown w (event.Beat node now) m = logged-grown w node.0 (Step.Beat now.0) m tt
-  happened-grown w event.Fault m = inl refl
+  happened-grown w _ m = inl refl
 
   pub happen-grown : (w : World) (e : Event) (m : ℕ) → Grown r.callbacks (w.nodes m) ((happen r w e).nodes m)
   happen-grown w e m = elim (is_possible r w e) as (λ b. Grown r.callbacks (w.nodes m) ((cond b (happened r w e) w).nodes m)) [ true ↦ happened-grown w e m | false ↦ inl refl ]

@@ -2,7 +2,6 @@ pub mod Sequencing
 pub mod Placing
 pub mod Confirming
 pub mod Windows
-pub mod Cutting
 pub mod HistoryWindows
 pub mod Growing
 pub mod Ending

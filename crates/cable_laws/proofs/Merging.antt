@@ -36,10 +36,7 @@ module _ (hash : List ℕ → ℤ) (page : ℕ) where
       let e = ap length r.is ∙ length-append (commits older) r.xs in
       let i = l.0 in
       record { xs = r.xs ++ row_with id offer ∷ []; is = ap (λ ys. ys ++ row_with id offer ∷ []) r.is ∙ append_assoc (commits older) r.xs (row_with id offer ∷ []); fresh = All-push (last_id older) r.xs (row_with id offer) r.fresh (omega arith) }
-  later (TableStep.Commit conn offer None ∷ newer) older l = let r = later newer older l.1 in record { xs = r.xs; is = r.is; fresh = r.fresh }
-  later (TableStep.Boot node last ∷ newer) older l = let r = later newer older l.1 in record { xs = r.xs; is = r.is; fresh = r.fresh }
-  later (TableStep.Trim now retention batch taken ∷ newer) older l = let r = later newer older l.1 in record { xs = r.xs; is = r.is; fresh = r.fresh }
-  later (TableStep.Read node turn note hashes ∷ newer) older l = let r = later newer older l.1 in record { xs = r.xs; is = r.is; fresh = r.fresh }
+  later (_ ∷ newer) older l = let r = later newer older l.1 in record { xs = r.xs; is = r.is; fresh = r.fresh }
 
   -- no Read of the turn is newer
   agree : (n t : ℕ) (newer older : List TableStep) → read_of n t newer ≡ None → Agree (reads_of hash n older) (reads_of hash n (newer ++ older)) t
@@ -50,9 +47,7 @@ module _ (hash : List ℕ → ℤ) (page : ℕ) where
           → (present_at n (TableStep.Read node turn note hashes ∷ (newer ++ older)) t r ≡ present_at n older t r) × (asked_at hash n (TableStep.Read node turn note hashes ∷ (newer ++ older)) t r ≡ asked_at hash n older t r)
       go true b ih = let h' = rw b at h in absurd (cc (h'))
       go false b ih = let h' = rw b at h in let x = ih h' in (rw b x.0, rw b x.1)
-  agree n t (TableStep.Commit conn offer id ∷ newer) older h r = agree n t newer older h r
-  agree n t (TableStep.Boot node last ∷ newer) older h r = agree n t newer older h r
-  agree n t (TableStep.Trim now retention batch taken ∷ newer) older h r = agree n t newer older h r
+  agree n t (_ ∷ newer) older h r = agree n t newer older h r
 
   last-more : (newer older : List TableStep) → LegalTable hash page (newer ++ older) → last_id older ≤ last_id (newer ++ older)
   last-more newer older l = let r = later newer older l in omega (arith, ap length r.is, length-append (commits older) r.xs)
@@ -61,14 +56,6 @@ module _ (hash : List ℕ → ℤ) (page : ℕ) where
       → AllLinked (commits whole) (reads_of hash n whole) past × (lower past ≤ last_id table)
   tied-linked n whole l [] front table e t lo = (tt, omega arith)
   tied-linked n whole l (Step.Boot last ∷ past) front table e t lo = ((lo.0, (tied-linked n whole l past front table e t.1 lo.1).0), t.0)
-  tied-linked n whole l (Step.Open c token user ∷ past) front table e t lo = let r = tied-linked n whole l past front table e t lo.1 in ((tt, r.0), r.1)
-  tied-linked n whole l (Step.In c text ∷ past) front table e t lo = let r = tied-linked n whole l past front table e t lo.1 in ((tt, r.0), r.1)
-  tied-linked n whole l (Step.Drop c ∷ past) front table e t lo = let r = tied-linked n whole l past front table e t lo.1 in ((tt, r.0), r.1)
-  tied-linked n whole l (Step.Stop ∷ past) front table e t lo = let r = tied-linked n whole l past front table e t lo.1 in ((tt, r.0), r.1)
-  tied-linked n whole l (Step.Take c ∷ past) front table e t lo = let r = tied-linked n whole l past front table e t lo.1 in ((tt, r.0), r.1)
-  tied-linked n whole l (Step.Finish c puts plan ∷ past) front table e t lo = let r = tied-linked n whole l past front table e t lo.1 in ((tt, r.0), r.1)
-  tied-linked n whole l (Step.Ask turn ∷ past) front table e t lo = let r = tied-linked n whole l past front table e t lo.1 in ((tt, r.0), r.1)
-  tied-linked n whole l (Step.Beat now ∷ past) front table e t lo = let r = tied-linked n whole l past front table e t lo.1 in ((tt, r.0), r.1)
   tied-linked n whole l (Step.Deliver turn note ∷ past) front table e (newer, older, hashes, is, once, t) lo =
       delivered (tied-linked n whole l past ((front ++ newer) ++ TableStep.Read n turn note hashes ∷ []) older (cut ∙ sym (append_assoc (front ++ newer) (TableStep.Read n turn note hashes ∷ []) older)) t lo.1)
     where
@@ -119,6 +106,7 @@ module _ (hash : List ℕ → ℤ) (page : ℕ) where
               let k = f.known in
               let g = grown in
               subst (λ x. cond x (lower past) note.upto.0 ≤ last_id table) (sym b) (omega arith)
+  tied-linked n whole l (_ ∷ past) front table e t lo = let r = tied-linked n whole l past front table e t lo.1 in ((tt, r.0), r.1)
 
 -- the promise holds of the journals of running threads
 pub journal_windows : JournalWindows

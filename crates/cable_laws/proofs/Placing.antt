@@ -19,12 +19,4 @@ mark-placed n table c w (Step.Deliver turn note ∷ past) l =
     go (Some t) o e = refl
     go None None e = refl
     go None (Some m) e = let t = turn-mark c w m note past e in ap (λ x. Some x) (t.0 ∙ l.0 t.2)
-mark-placed n table c w (Step.Boot last ∷ past) l = mark-placed n table c w past l.1
-mark-placed n table c w (Step.Open d token user ∷ past) l = mark-placed n table c w past l.1
-mark-placed n table c w (Step.In d text ∷ past) l = mark-placed n table c w past l.1
-mark-placed n table c w (Step.Drop d ∷ past) l = mark-placed n table c w past l.1
-mark-placed n table c w (Step.Stop ∷ past) l = mark-placed n table c w past l.1
-mark-placed n table c w (Step.Take d ∷ past) l = mark-placed n table c w past l.1
-mark-placed n table c w (Step.Finish d puts plan ∷ past) l = mark-placed n table c w past l.1
-mark-placed n table c w (Step.Ask turn ∷ past) l = mark-placed n table c w past l.1
-mark-placed n table c w (Step.Beat now ∷ past) l = mark-placed n table c w past l.1
+mark-placed n table c w (_ ∷ past) l = mark-placed n table c w past l.1

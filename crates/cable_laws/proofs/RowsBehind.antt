@@ -1,23 +1,22 @@
 -- Before a row is finished its subscription was confirmed.
-use Rattle.std.proofs.Common.{ℕ, suc, ◌+◌, ◌-◌, ◌≡◌, ◌≤◌, ◌==◌, Bool, true, false, cond, ◌||◌, List, [], ◌∷◌, ◌++◌, length, length-append, take, take_at, append_assoc, Some, refl, ap, sym, subst, ◌∙◌, arith, inl, inr, ◌⊎◌, is_some, slice_get}
+use Rattle.std.proofs.Common.{ℕ, suc, ◌+◌, ◌-◌, ◌≡◌, ◌≤◌, ◌==◌, Bool, true, false, cond, ◌||◌, List, [], ◌∷◌, ◌++◌, length, length-append, take, take_at, append_assoc, Some, refl, ap, sym, subst, ◌∙◌, arith, inl, inr, ◌⊎◌, slice_get}
 use Rattle.std.proofs.lemmas.List.{take-append-le}
 use Rattle.std.proofs.lemmas.Bool.{and_parts}
 use Rattle.std.proofs.lemmas.Bool.Decides.{nat_tests}
 use Rattle.cable_base.specs.declared.numbers.SubNo.{SubNo}
 use Rattle.cable_base.specs.declared.rows.Row.{Row}
-use Rattle.cable_json.specs.Commands.{command_of}
 use Rattle.cable_model.specs.declared.events.Event.{Event}
 use Rattle.cable_model.specs.declared.pieces.Piece.{Piece}
 use Rattle.cable_model.specs.declared.pieces.Piece.TheVariants as piece
 use Rattle.cable_model.specs.declared.plans.Plan.{Plan}
 use Rattle.cable_model.specs.Steps.{Step}
 use Rattle.cable_model.specs.Connection.{Conn, Planner, fold, fold_from, fresh, still, worked}
-use Rattle.cable_model.specs.Wants.{marks, turn_mark, user_of}
-use Rattle.cable_model.specs.Pieces.{Seat, deliver_puts, put_all, seat, with_all, with_job, with_plan, with_put}
+use Rattle.cable_model.specs.Pieces.{Seat, put_all, seat, with_all, with_job, with_plan}
 use Rattle.cable_model.specs.Possible.{has_job}
 use Rattle.cable_model.specs.Window.{finished, job}
 use Rattle.cable_model.specs.Promise.{AfterConfirm, AllWorked, InOrder, confirms}
 use Rattle.cable_model.specs.History.{Rules}
+use Rattle.cable_model.proofs.Entries.{only-puts}
 use Rattle.cable_model.proofs.Folds.{fold_from-append}
 use Rattle.cable_model.proofs.Working.{Out, Passed, Working, get-split, passed-fold, put_all-more, working}
 use Rattle.cable_laws.specs.Said.{FinishIn, IsConfirmed, RowsFollowConfirmation}
@@ -40,11 +39,7 @@ passed-unconfirmed s k (piece.Confirm sub) h = go (sub.0 == s) refl
     go : (b : Bool) → (sub.0 == s) ≡ b → confirms s k (piece.Confirm sub) ≡ false
     go true b = let same : sub.0 ≡ s = grind (arith, nat_tests) in rw b (subst (λ i. still k (piece.Confirm (record { 0 = i })) ≡ false) same h)
     go false b = rw b refl
-passed-unconfirmed s k (piece.Cmd read) h = refl
-passed-unconfirmed s k (piece.Row sub want row) h = refl
-passed-unconfirmed s k (piece.Remote reconnect) h = refl
-passed-unconfirmed s k piece.Gone h = refl
-passed-unconfirmed s k piece.Restart h = refl
+passed-unconfirmed s k _ h = refl
 
 or-false : (b : Bool) → (b || false) ≡ b
 or-false true = refl
@@ -127,26 +122,14 @@ module _ (pl : Planner) (c : ℕ) (sub : SubNo) where
       let same : take s.done (put_all s.pieces qs) ≡ take s.done s.pieces = ap (take s.done) more.1 ∙ take-append-le s.done s.pieces more.0 l in
       ap (confirmed_from pl sub.0 0 fresh false) (sym same) ∙ h
 
-  put-unconfirmed : (s : Seat) (q : Piece) (b : Bool) → s.done ≤ length s.pieces → Confirmed (cond b (with_put s q) s) → Confirmed s
-  put-unconfirmed s q true l h = puts-unconfirmed s (q ∷ []) l h
-  put-unconfirmed s q false l h = h
-
   job-unconfirmed : (s : Seat) (b : Bool) → Confirmed (cond b (with_job s) s) → Confirmed s
   job-unconfirmed s true h = h
   job-unconfirmed s false h = h
 
-  missed-unconfirmed : (s : Seat) (qs : List Piece) (b : Bool) → s.done ≤ length s.pieces → Confirmed (cond b s (with_all s qs)) → Confirmed s
-  missed-unconfirmed s qs true l h = h
-  missed-unconfirmed s qs false l h = puts-unconfirmed s qs l h
-
   -- a piece that confirms is a confirmation of the subscription
   confirming : (k : Conn) (p : Piece) → confirms sub.0 k p ≡ true → p ≡ piece.Confirm sub
   confirming k (piece.Confirm other) h = let both = and_parts (other.0 == sub.0) _ h in let same : other.0 ≡ sub.0 = grind (arith, nat_tests, both.0) in ap (λ i. piece.Confirm (record { 0 = i })) same
-  confirming k (piece.Cmd read) h = absurd (cc (h))
-  confirming k (piece.Row s w row) h = absurd (cc (h))
-  confirming k (piece.Remote reconnect) h = absurd (cc (h))
-  confirming k piece.Gone h = absurd (cc (h))
-  confirming k piece.Restart h = absurd (cc (h))
+  confirming k _ h = absurd (cc (h))
 
   or-cases : (a b : Bool) → (a || b) ≡ true → (a ≡ true) ⊎ (b ≡ true)
   or-cases true b h = inl refl
@@ -169,11 +152,6 @@ module _ (pl : Planner) (c : ℕ) (sub : SubNo) where
 
   was-confirmed : (past : List Step) → AllWorked pl c past → Confirmed (seat c past) → WasConfirmed c sub past
   was-confirmed [] a h = absurd (cc (h))
-  was-confirmed (Step.Boot last ∷ past) a h = later c sub _ past (was-confirmed past a.1 h)
-  was-confirmed (Step.Open d token user ∷ past) a h = later c sub _ past (was-confirmed past a.1 h)
-  was-confirmed (Step.In d text ∷ past) a h = later c sub _ past (was-confirmed past a.1 (put-unconfirmed (seat c past) (piece.Cmd (command_of text)) (d == c) (seated past a.1) h))
-  was-confirmed (Step.Drop d ∷ past) a h = later c sub _ past (was-confirmed past a.1 (put-unconfirmed (seat c past) piece.Gone (d == c) (seated past a.1) h))
-  was-confirmed (Step.Stop ∷ past) a h = later c sub _ past (was-confirmed past a.1 (put-unconfirmed (seat c past) piece.Restart (is_some (user_of c past)) (seated past a.1) h))
   was-confirmed (Step.Take d ∷ past) a h = later c sub _ past (was-confirmed past a.1 (job-unconfirmed (seat c past) (d == c) h))
   was-confirmed (Step.Finish d puts plan ∷ past) a h = go (d == c) refl (was-confirmed past a.1)
     where
@@ -186,11 +164,9 @@ module _ (pl : Planner) (c : ℕ) (sub : SubNo) where
             | inr is ↦ (record { after = []; puts = puts; plan = plan; past = past; splits = ap (λ x. Step.Finish x puts plan ∷ past) same }, is)
           ]
       go false b ih = later c sub _ past (ih (subst (λ x. Confirmed (cond x (with_plan (seat c past) plan) (seat c past))) b h))
-  was-confirmed (Step.Ask turn ∷ past) a h = later c sub _ past (was-confirmed past a.1 h)
-  was-confirmed (Step.Deliver turn note ∷ past) a h =
-      later c sub _ past (was-confirmed past a.1
-      (missed-unconfirmed (seat c past) (deliver_puts (user_of c past) (marks c past) (turn_mark c note past) (seat c past).conn.subs note.rows) note.failed (seated past a.1) h))
-  was-confirmed (Step.Beat now ∷ past) a h = later c sub _ past (was-confirmed past a.1 h)
+  was-confirmed (e ∷ past) a h =
+      let put = only-puts c e past refl in
+      later c sub e past (was-confirmed past a.1 (puts-unconfirmed (seat c past) put.0 (seated past a.1) (subst Confirmed put.1 h)))
 
 -- ---- over a history
 

@@ -58,11 +58,9 @@ StreamsDiffer subs = AllByRecursion (λ (s : Sub). AreDistinctTexts (names_of s.
 
 -- a new subscription has an identifier of its own and streams that differ, and those that one gets differ from what is left of its own
 abbrev pub FitsConn : Conn → Change → Type 0
-FitsConn k change.Nothing = Unit {0}
 FitsConn k (change.Add identifier streams) = (sub_named identifier k ≡ None) × AreDistinctTexts streams
 FitsConn k (change.Streams identifier stops streams) = (s : Sub) → sub_named identifier k ≡ Some s → AreDistinctTexts (unstopped stops (names_of s.wants) ++ streams)
-FitsConn k (change.Remove identifier) = Unit {0}
-FitsConn k change.Close = Unit {0}
+FitsConn k _ = Unit {0}
 
 found-holds : (P : Sub → Type 0) (p : Sub → Bool) (xs : List Sub) (s : Sub) → AllByRecursion P xs → find p xs ≡ Some s → P s
 found-holds P p [] s h e = absurd (cc (e))
@@ -118,10 +116,7 @@ module _ (c : Callbacks) (user : List ℕ) (k : Conn) where
 
   fault-fits : (fault : CommandFault) → FitsConn k (plan_for c user (fault_task fault)).change
   fault-fits command_fault.BadJson = tt
-  fault-fits command_fault.UnknownCommand = tt
-  fault-fits command_fault.NoIdentifier = tt
-  fault-fits command_fault.BadData = tt
-  fault-fits command_fault.OutOfMemory = tt
+  fault-fits _ = tt
 
   -- what is planned for a piece fits the connection
   pub plan-fits : (p : Piece) → StreamsDiffer k.subs → FitsConn k (plan_of c user k p).change
@@ -131,6 +126,4 @@ module _ (c : Callbacks) (user : List ℕ) (k : Conn) where
   plan-fits (piece.Cmd (Ok (command.Message identifier payload))) d = perform-fits identifier payload (sub_named identifier k) refl d
   plan-fits (piece.Row sub want row) d = row-fits row.payload (sub_numbered sub.0 k)
   plan-fits (piece.Confirm sub) d = confirm-fits (sub_numbered sub.0 k)
-  plan-fits (piece.Remote reconnect) d = tt
-  plan-fits piece.Gone d = tt
-  plan-fits piece.Restart d = tt
+  plan-fits _ d = tt

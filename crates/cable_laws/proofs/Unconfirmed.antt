@@ -65,14 +65,9 @@ perform-waits performed streams (Err fault) = λ identifier name names h. absurd
 perform-waits performed streams (Ok answer) = λ identifier name names h. absurd (cc (h))
 
 task-waits : (c : Callbacks) (user : List ℕ) (t : Task) → WaitsForConfirm (plan_for c user t)
-task-waits c user task.Nothing = λ identifier name names h. absurd (cc (h))
-task-waits c user (task.Note why) = λ identifier name names h. absurd (cc (h))
 task-waits c user (task.Subscribe subscribed) = subscribe-waits subscribed (c.subscribed user subscribed) (c.unsubscribed user subscribed)
-task-waits c user (task.Unsubscribe left) = λ identifier name names h. absurd (cc (h))
 task-waits c user (task.Perform performed payload streams) = perform-waits performed streams (c.perform user performed payload)
-task-waits c user (task.Row sub payload) = λ identifier name names h. absurd (cc (h))
-task-waits c user (task.Confirm sub) = λ identifier name names h. absurd (cc (h))
-task-waits c user (task.Close how subs) = λ identifier name names h. absurd (cc (h))
+task-waits c user _ = λ identifier name names h. absurd (cc (h))
 
 -- the plan of a job that is out
 pub job-waits : (r : Callbacks) (c : ℕ) (past : List Step) (plan : Plan) → job_plan r c past ≡ Some plan → WaitsForConfirm plan

@@ -16,14 +16,11 @@ all-left c user a [] = tt
 all-left c user a (identifier ∷ identifiers) = (a.unsubscribed user identifier, all-left c user a identifiers)
 
 pub always-answered : (c : Callbacks) → AlwaysAnswer c → (user : List ℕ) (t : Task) → IsAnswered c user t
-always-answered c a user task.Nothing = tt
-always-answered c a user (task.Note why) = tt
 always-answered c a user (task.Subscribe identifier) = (a.subscribed user identifier, λ rejected. a.unsubscribed user identifier)
 always-answered c a user (task.Unsubscribe identifier) = a.unsubscribed user identifier
 always-answered c a user (task.Perform identifier payload streams) = a.perform user identifier payload
-always-answered c a user (task.Row identifier payload) = tt
-always-answered c a user (task.Confirm identifier) = tt
 always-answered c a user (task.Close how identifiers) = all-left c user a identifiers
+always-answered c a user _ = tt
 
 -- a step whose own fault is no want of memory
 no-memory : {A B : Type 0} (why : CallFault) (o : Option A) (rest : A → Result B CallFault) → ¬ (why ≡ fault.OutOfMemory) → ((x : A) → ¬ (rest x ≡ Err fault.OutOfMemory))

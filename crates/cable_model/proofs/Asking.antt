@@ -115,15 +115,7 @@ module _ (pl : Planner) (reads : Reads) (c s w : ℕ) (row : Row) where
           and3 : leb row.id.0 note.upto.0 ≡ false → (not note.failed && leb row.id.0 note.upto.0 && is_some (mark_of w (marks c past))) ≡ false
           and3 y = ap (λ q. not note.failed && q && is_some (mark_of w (marks c past))) y ∙ and-comm (not note.failed) (is_some (mark_of w (marks c past)))
       go None e ih false f None o b b' = rw e (subst Same (sym (ap (λ x. cond x (Some (record { turn = turn; note = note; past = past })) None) (ap (λ q. not note.failed && leb row.id.0 note.upto.0 && is_some q) o ∙ and-false (not note.failed && leb row.id.0 note.upto.0)))) refl)
-  same-found (Step.Boot last ∷ past) a k = same-found past a.1 k.1
-  same-found (Step.Open d token user ∷ past) a k = same-found past a.1 k.1
-  same-found (Step.In d text ∷ past) a k = same-found past a.1 k.1
-  same-found (Step.Drop d ∷ past) a k = same-found past a.1 k.1
-  same-found (Step.Stop ∷ past) a k = same-found past a.1 k.1
-  same-found (Step.Take d ∷ past) a k = same-found past a.1 k.1
-  same-found (Step.Finish d puts plan ∷ past) a k = same-found past a.1 k.1
-  same-found (Step.Ask turn ∷ past) a k = same-found past a.1 k.1
-  same-found (Step.Beat now ∷ past) a k = same-found past a.1 k.1
+  same-found (_ ∷ past) a k = same-found past a.1 k.1
 
 -- the window does not speak of hashes
 pub same-window : (pl : Planner) (reads : Reads) (rows : List Row) (c s w : ℕ) (past : List Step) → AllWorked pl c past → AllAskHeld reads c past

@@ -2,9 +2,8 @@
 use Rattle.std.proofs.Common.{ℕ, suc, ◌-◌, ◌≡◌, ◌<◌, ◌≤◌, ◌==◌, Bool, true, false, cond, ◌||◌, List, [], ◌∷◌, ◌++◌, map, Some, None, Option, refl, ap, sym, subst, ◌∙◌, arith, is_some, ℤ}
 use Rattle.std.specs.Ordering.{int_eq}
 use Rattle.std.proofs.lemmas.Bool.Decides.{nat_tests, Decides-int_eq}
-use Rattle.cable_base.proofs.Rises.{Rises-upto}
 use Rattle.cable_model.specs.Steps.{Step}
-use Rattle.cable_model.specs.Connection.{Want, Sub, Conn, Planner, changed, want_in, name_in, name_of}
+use Rattle.cable_model.specs.Connection.{Want, Sub, Planner, changed, want_in, name_in, name_of}
 use Rattle.cable_model.specs.Wants.{Mark, marks, mark_of, turn_mark, user_of, made, at_ask, marked}
 use Rattle.cable_model.specs.Pieces.{seat}
 use Rattle.cable_model.specs.Window.{Reads, finished}
@@ -12,41 +11,17 @@ use Rattle.cable_model.specs.Table.{contains}
 use Rattle.cable_model.specs.Possible.{is_out, has_job}
 use Rattle.cable_model.specs.History.{own_held, held_wants, held_subs, held_of, held_by, hashes_of}
 use Rattle.cable_model.specs.Promise.{AllWorked}
-use Rattle.cable_model.proofs.Valid.{Valid, changed-keeps}
+use Rattle.cable_model.proofs.Entries.{unfinished}
+use Rattle.cable_model.proofs.Valid.{Valid-upto, changed-keeps}
 use Rattle.cable_model.proofs.Working.{working}
 use Rattle.cable_model.proofs.Inbox.{valid-at}
 use Rattle.cable_model.proofs.Marks.{made-at_ask, marked-made, made-conn, mark_of-append, first_mark}
 use Rattle.cable_model.proofs.Asking.{AllAskHeld}
 use Rattle.cable_model.proofs.Linking.{TurnsRise, delivered, Agree}
 
-pub Valid-upto : (m n : ℕ) (k : Conn) → m ≤ n → Valid m k → Valid n k
-Valid-upto m n k l v = record { subs = Rises-upto (λ (x : Sub). x.number) 0 k.subs m n l v.subs; wants = v.wants }
-
 -- no entry brings a want back
 pub conn-keeps : (pl : Planner) (c s w : ℕ) (name : List ℕ) (e : Step) (past : List Step) → AllWorked pl c (e ∷ past) → w ≤ made c past
     → name_of s w (seat c (e ∷ past)).conn ≡ Some name → name_of s w (seat c past).conn ≡ Some name
-conn-keeps pl c s w name (Step.Boot last) past a l q = q
-conn-keeps pl c s w name (Step.Open d token user) past a l q = q
-conn-keeps pl c s w name (Step.In d text) past a l q = go (d == c) refl
-  where
-    go : (b : Bool) → (d == c) ≡ b → name_of s w (seat c past).conn ≡ Some name
-    go true b = let q' = rw b at q in q'
-    go false b = let q' = rw b at q in q'
-conn-keeps pl c s w name (Step.Drop d) past a l q = go (d == c) refl
-  where
-    go : (b : Bool) → (d == c) ≡ b → name_of s w (seat c past).conn ≡ Some name
-    go true b = let q' = rw b at q in q'
-    go false b = let q' = rw b at q in q'
-conn-keeps pl c s w name Step.Stop past a l q = go (is_some (user_of c past)) refl
-  where
-    go : (b : Bool) → is_some (user_of c past) ≡ b → name_of s w (seat c past).conn ≡ Some name
-    go true b = let q' = rw b at q in q'
-    go false b = let q' = rw b at q in q'
-conn-keeps pl c s w name (Step.Take d) past a l q = go (d == c) refl
-  where
-    go : (b : Bool) → (d == c) ≡ b → name_of s w (seat c past).conn ≡ Some name
-    go true b = let q' = rw b at q in q'
-    go false b = let q' = rw b at q in q'
 conn-keeps pl c s w name (Step.Finish d puts plan) past a l q = go (d == c) refl
   where
     go : (b : Bool) → (d == c) ≡ b → name_of s w (seat c past).conn ≡ Some name
@@ -60,40 +35,21 @@ conn-keeps pl c s w name (Step.Finish d puts plan) past a l q = go (d == c) refl
         let v = Valid-upto (seat c past).done n (seat c past).conn (omega arith) (valid-at pl (seat c past) (λ sub want. finished c sub want past) (working pl c past a.1)) in
         let q2 : name_of s w (changed plan.change (suc n) (seat c past).conn) ≡ Some name = subst (λ m. name_of s w (changed plan.change m (seat c past).conn) ≡ Some name) p q' in
         changed-keeps n s w (seat c past).conn plan.change name v (omega (arith, made-conn c past)) q2
-conn-keeps pl c s w name (Step.Ask turn) past a l q = q
-conn-keeps pl c s w name (Step.Deliver turn note) past a l q = go note.failed refl
-  where
-    go : (b : Bool) → note.failed ≡ b → name_of s w (seat c past).conn ≡ Some name
-    go true b = let q' = rw b at q in q'
-    go false b = let q' = rw b at q in q'
-conn-keeps pl c s w name (Step.Beat now) past a l q = q
+conn-keeps pl c s w name e past a l q = sym (ap (name_of s w) (unfinished c e past refl).conn) ∙ q
 
 pub marks-at_ask : (c : ℕ) (past : List Step) → is_out past ≡ true → marks c past ≡ marks c (at_ask past)
 marks-at_ask c [] o = refl
 marks-at_ask c (Step.Ask turn ∷ past) o = refl
 marks-at_ask c (Step.Deliver turn note ∷ past) o = absurd (cc (o))
-marks-at_ask c (Step.Boot last ∷ past) o = marks-at_ask c past o
-marks-at_ask c (Step.Open d token user ∷ past) o = marks-at_ask c past o
-marks-at_ask c (Step.In d text ∷ past) o = marks-at_ask c past o
-marks-at_ask c (Step.Drop d ∷ past) o = marks-at_ask c past o
-marks-at_ask c (Step.Stop ∷ past) o = marks-at_ask c past o
-marks-at_ask c (Step.Take d ∷ past) o = marks-at_ask c past o
-marks-at_ask c (Step.Finish d puts plan ∷ past) o = marks-at_ask c past o
-marks-at_ask c (Step.Beat now ∷ past) o = marks-at_ask c past o
+marks-at_ask c (_ ∷ past) o = marks-at_ask c past o
 
 pub name-at_ask : (pl : Planner) (c s w : ℕ) (name : List ℕ) (past : List Step) → AllWorked pl c past → is_out past ≡ true → w ≤ made c (at_ask past)
     → name_of s w (seat c past).conn ≡ Some name → name_of s w (seat c (at_ask past)).conn ≡ Some name
 name-at_ask pl c s w name [] a o l q = q
 name-at_ask pl c s w name (Step.Ask turn ∷ past) a o l q = q
 name-at_ask pl c s w name (Step.Deliver turn note ∷ past) a o l q = absurd (cc (o))
-name-at_ask pl c s w name (Step.Boot last ∷ past) a o l q = name-at_ask pl c s w name past a.1 o l q
-name-at_ask pl c s w name (Step.Open d token user ∷ past) a o l q = name-at_ask pl c s w name past a.1 o l q
-name-at_ask pl c s w name (Step.In d text ∷ past) a o l q = let g = made-at_ask c past in name-at_ask pl c s w name past a.1 o l (conn-keeps pl c s w name (Step.In d text) past a (omega arith) q)
-name-at_ask pl c s w name (Step.Drop d ∷ past) a o l q = let g = made-at_ask c past in name-at_ask pl c s w name past a.1 o l (conn-keeps pl c s w name (Step.Drop d) past a (omega arith) q)
-name-at_ask pl c s w name (Step.Stop ∷ past) a o l q = let g = made-at_ask c past in name-at_ask pl c s w name past a.1 o l (conn-keeps pl c s w name Step.Stop past a (omega arith) q)
-name-at_ask pl c s w name (Step.Take d ∷ past) a o l q = let g = made-at_ask c past in name-at_ask pl c s w name past a.1 o l (conn-keeps pl c s w name (Step.Take d) past a (omega arith) q)
-name-at_ask pl c s w name (Step.Finish d puts plan ∷ past) a o l q = let g = made-at_ask c past in name-at_ask pl c s w name past a.1 o l (conn-keeps pl c s w name (Step.Finish d puts plan) past a (omega arith) q)
-name-at_ask pl c s w name (Step.Beat now ∷ past) a o l q = name-at_ask pl c s w name past a.1 o l q
+name-at_ask pl c s w name (e ∷ past) a o l q =
+    let g = made-at_ask c past in name-at_ask pl c s w name past a.1 o l (conn-keeps pl c s w name e past a (omega arith) q)
 
 -- c was opened
 abbrev pub was_opened : ℕ → List Step → Bool
@@ -108,15 +64,8 @@ or-true false = refl
 opened-at_ask : (c : ℕ) (past : List Step) → was_opened c (at_ask past) ≡ true → was_opened c past ≡ true
 opened-at_ask c [] h = h
 opened-at_ask c (Step.Ask turn ∷ past) h = h
-opened-at_ask c (Step.Deliver turn note ∷ past) h = opened-at_ask c past h
-opened-at_ask c (Step.Boot last ∷ past) h = opened-at_ask c past h
 opened-at_ask c (Step.Open d token user ∷ past) h = rw (opened-at_ask c past h) (or-true (d == c))
-opened-at_ask c (Step.In d text ∷ past) h = opened-at_ask c past h
-opened-at_ask c (Step.Drop d ∷ past) h = opened-at_ask c past h
-opened-at_ask c (Step.Stop ∷ past) h = opened-at_ask c past h
-opened-at_ask c (Step.Take d ∷ past) h = opened-at_ask c past h
-opened-at_ask c (Step.Finish d puts plan ∷ past) h = opened-at_ask c past h
-opened-at_ask c (Step.Beat now ∷ past) h = opened-at_ask c past h
+opened-at_ask c (_ ∷ past) h = opened-at_ask c past h
 
 user-opened : (c : ℕ) (past : List Step) (u : List ℕ) → user_of c past ≡ Some u → was_opened c past ≡ true
 user-opened c [] u h = absurd (cc (h))
@@ -125,15 +74,7 @@ user-opened c (Step.Open d token user ∷ past) u h = go (d == c) refl (user-ope
     go : (b : Bool) → (d == c) ≡ b → (user_of c past ≡ Some u → was_opened c past ≡ true) → was_opened c (Step.Open d token user ∷ past) ≡ true
     go true b ih = rw b refl
     go false b ih = let h' = rw b at h in rw b (ih h')
-user-opened c (Step.Ask turn ∷ past) u h = user-opened c past u h
-user-opened c (Step.Deliver turn note ∷ past) u h = user-opened c past u h
-user-opened c (Step.Boot last ∷ past) u h = user-opened c past u h
-user-opened c (Step.In d text ∷ past) u h = user-opened c past u h
-user-opened c (Step.Drop d ∷ past) u h = user-opened c past u h
-user-opened c (Step.Stop ∷ past) u h = user-opened c past u h
-user-opened c (Step.Take d ∷ past) u h = user-opened c past u h
-user-opened c (Step.Finish d puts plan ∷ past) u h = user-opened c past u h
-user-opened c (Step.Beat now ∷ past) u h = user-opened c past u h
+user-opened c (_ ∷ past) u h = user-opened c past u h
 
 pub marked-opened : (c w m : ℕ) (past : List Step) → mark_of w (marks c past) ≡ Some m → was_opened c past ≡ true
 marked-opened c w m [] q = absurd (cc (q))
@@ -148,14 +89,7 @@ marked-opened c w m (Step.Deliver turn note ∷ past) q = go (mark_of w (marks c
         let q3 : mark_of w (marked None (made c (at_ask past)) note) ≡ Some m = subst (λ z. mark_of w (marked z (made c (at_ask past)) note) ≡ Some m) e q2 in
         absurd (cc (q3))
 marked-opened c w m (Step.Open d token user ∷ past) q = rw (marked-opened c w m past q) (or-true (d == c))
-marked-opened c w m (Step.Ask turn ∷ past) q = marked-opened c w m past q
-marked-opened c w m (Step.Boot last ∷ past) q = marked-opened c w m past q
-marked-opened c w m (Step.In d text ∷ past) q = marked-opened c w m past q
-marked-opened c w m (Step.Drop d ∷ past) q = marked-opened c w m past q
-marked-opened c w m (Step.Stop ∷ past) q = marked-opened c w m past q
-marked-opened c w m (Step.Take d ∷ past) q = marked-opened c w m past q
-marked-opened c w m (Step.Finish d puts plan ∷ past) q = marked-opened c w m past q
-marked-opened c w m (Step.Beat now ∷ past) q = marked-opened c w m past q
+marked-opened c w m (_ ∷ past) q = marked-opened c w m past q
 
 module _ (hash : List ℕ → ℤ) where
   has : List (List ℕ) → List ℕ → Bool
@@ -208,15 +142,7 @@ module _ (hash : List ℕ → ℤ) where
       go false b ih =
           let h' = rw b at h in
           has-append (held_of d past) (held_by past more) name ∙ (ap (λ x. contains (map hash (held_of d past)) (hash name) || x) (ih h') ∙ or-true (contains (map hash (held_of d past)) (hash name)))
-  names-held c s w m name past (Step.Ask turn ∷ more) h o q = names-held c s w m name past more h o q
-  names-held c s w m name past (Step.Deliver turn note ∷ more) h o q = names-held c s w m name past more h o q
-  names-held c s w m name past (Step.Boot last ∷ more) h o q = names-held c s w m name past more h o q
-  names-held c s w m name past (Step.In d text ∷ more) h o q = names-held c s w m name past more h o q
-  names-held c s w m name past (Step.Drop d ∷ more) h o q = names-held c s w m name past more h o q
-  names-held c s w m name past (Step.Stop ∷ more) h o q = names-held c s w m name past more h o q
-  names-held c s w m name past (Step.Take d ∷ more) h o q = names-held c s w m name past more h o q
-  names-held c s w m name past (Step.Finish d puts plan ∷ more) h o q = names-held c s w m name past more h o q
-  names-held c s w m name past (Step.Beat now ∷ more) h o q = names-held c s w m name past more h o q
+  names-held c s w m name past (_ ∷ more) h o q = names-held c s w m name past more h o q
 
 -- what a turn asks for has every name that is held while it is out
 pub asks-for : (hash : List ℕ → ℤ) (pl : Planner) (c s w m : ℕ) (name : List ℕ) (past : List Step) → AllWorked pl c past → is_out past ≡ true → mark_of w (marks c past) ≡ Some m → name_of s w (seat c past).conn ≡ Some name
@@ -230,12 +156,4 @@ pub asks-more : (reads reads' : Reads) (c : ℕ) (past : List Step) → TurnsRis
 asks-more reads reads' c [] n a l = tt
 asks-more reads reads' c (Step.Deliver turn note ∷ past) n a l =
     (λ f s w m name o q row b. ((a turn (omega arith)) row).1 ∙ l.0 f s w m name o q row b, asks-more reads reads' c past n.1 (λ t h. a t (omega (arith, n.0))) l.1)
-asks-more reads reads' c (Step.Ask turn ∷ past) n a l = (tt, asks-more reads reads' c past n a l.1)
-asks-more reads reads' c (Step.Boot last ∷ past) n a l = (tt, asks-more reads reads' c past n a l.1)
-asks-more reads reads' c (Step.Open d token user ∷ past) n a l = (tt, asks-more reads reads' c past n a l.1)
-asks-more reads reads' c (Step.In d text ∷ past) n a l = (tt, asks-more reads reads' c past n a l.1)
-asks-more reads reads' c (Step.Drop d ∷ past) n a l = (tt, asks-more reads reads' c past n a l.1)
-asks-more reads reads' c (Step.Stop ∷ past) n a l = (tt, asks-more reads reads' c past n a l.1)
-asks-more reads reads' c (Step.Take d ∷ past) n a l = (tt, asks-more reads reads' c past n a l.1)
-asks-more reads reads' c (Step.Finish d puts plan ∷ past) n a l = (tt, asks-more reads reads' c past n a l.1)
-asks-more reads reads' c (Step.Beat now ∷ past) n a l = (tt, asks-more reads reads' c past n a l.1)
+asks-more reads reads' c (_ ∷ past) n a l = (tt, asks-more reads reads' c past n a l.1)

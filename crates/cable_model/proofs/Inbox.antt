@@ -3,10 +3,9 @@ use Rattle.std.proofs.Common.{ℕ, suc, ◌+◌, ◌-◌, ◌≡◌, ◌<◌, �
 use Rattle.std.specs.List.{filter, list_any, AllByRecursion}
 use Rattle.std.proofs.lemmas.Bool.Decides.{nat_tests}
 use Rattle.cable_base.specs.Names.{own_name}
-use Rattle.cable_base.specs.declared.numbers.RowId.{RowId}
 use Rattle.cable_base.specs.declared.rows.Row.{Row}
 use Rattle.cable_base.proofs.Each.{All-append, All-back, All-implied}
-use Rattle.cable_base.proofs.Rises.{Rises, Rises-within, Rises-upto}
+use Rattle.cable_base.proofs.Rises.{Rises, Rises-within}
 use Rattle.cable_json.specs.Commands.{command_of}
 use Rattle.cable_json.specs.Disconnects.{disconnect_of}
 use Rattle.cable_model.specs.declared.pieces.Piece.{Piece}
@@ -14,35 +13,29 @@ use Rattle.cable_model.specs.declared.pieces.Piece.TheVariants as piece
 use Rattle.cable_model.specs.declared.plans.Change.{Change}
 use Rattle.cable_model.specs.declared.plans.Change.TheVariants as change
 use Rattle.cable_model.specs.declared.plans.Plan.{Plan}
-use Rattle.cable_model.specs.Steps.{Step, Boot, Open, In, Drop, Stop, Take, Finish, Ask, Deliver, Beat}
+use Rattle.cable_model.specs.Steps.{Step, In, Drop, Stop, Take, Finish, Deliver}
 use Rattle.cable_model.specs.Connection.{Want, Sub, Conn, Planner, fresh, changed, streamed, wanted, first_above, fold, still, stands_want, stands_sub, name_of}
 use Rattle.cable_model.specs.Wants.{Mark, marks, mark_of, turn_mark, user_of}
 use Rattle.cable_model.specs.Pieces.{closing, put, put_all, below, row_piece, hold_puts, sub_puts, own_puts, remote_put, row_puts, rows_puts, takes_now, confirm_puts, deliver_puts, numbered, Seat, seat, waiting, with_put, with_all, with_job, with_plan}
 use Rattle.cable_model.specs.Possible.{has_job}
 use Rattle.cable_model.specs.Window.{finished}
 use Rattle.cable_model.specs.Promise.{AllWorked}
-use Rattle.cable_model.proofs.Valid.{Valid, fresh-valid, fold_from-valid, changed-keeps, changed-made, streamed-number}
+use Rattle.cable_model.proofs.Valid.{Valid, fresh-valid, fold_from-valid, changed-keeps, changed-made, streamed-number, Valid-upto}
 use Rattle.cable_model.proofs.Working.{Working, working, Out, drop-numbered}
 
 -- the numbers that a piece names were given
 abbrev pub Known : ℕ → ℕ → Piece → Type 0
-Known made n (piece.Cmd read) = Unit {0}
 Known made n (piece.Row sub want row) = want.0 ≤ made
 Known made n (piece.Confirm sub) = sub.0 ≤ n
-Known made n (piece.Remote reconnect) = Unit {0}
-Known made n piece.Gone = Unit {0}
-Known made n piece.Restart = Unit {0}
+Known made n _ = Unit {0}
 
 abbrev pub AllKnown : ℕ → ℕ → List Piece → Type 0
 AllKnown made n ps = AllByRecursion (Known made n) ps
 
 Known-more : (m m' n n' : ℕ) → m ≤ m' → n ≤ n' → (q : Piece) → Known m n q → Known m' n' q
-Known-more m m' n n' a b (piece.Cmd read) h = tt
 Known-more m m' n n' a b (piece.Row sub want row) h = omega arith
 Known-more m m' n n' a b (piece.Confirm sub) h = omega arith
-Known-more m m' n n' a b (piece.Remote reconnect) h = tt
-Known-more m m' n n' a b piece.Gone h = tt
-Known-more m m' n n' a b piece.Restart h = tt
+Known-more m m' n n' a b _ h = tt
 
 AllKnown-more : (m m' n n' : ℕ) → m ≤ m' → n ≤ n' → (qs : List Piece) → AllKnown m n qs → AllKnown m' n' qs
 AllKnown-more m m' n n' a b qs h = All-implied (Known m n) (Known m' n') qs (Known-more m m' n n' a b) h
@@ -111,8 +104,6 @@ deliver-known s user ms now rows v a =
 
 pub known : (pl : Planner) (c : ℕ) (past : List Step) → AllWorked pl c past → SeatKnown (seat c past)
 known pl c [] a = tt
-known pl c (Boot last ∷ past) a = known pl c past a.1
-known pl c (Open d token user ∷ past) a = known pl c past a.1
 known pl c (In d text ∷ past) a = one-known (seat c past) (piece.Cmd (command_of text)) (d == c) tt (known pl c past a.1)
 known pl c (Drop d ∷ past) a = one-known (seat c past) piece.Gone (d == c) tt (known pl c past a.1)
 known pl c (Stop ∷ past) a = one-known (seat c past) piece.Restart (is_some (user_of c past)) tt (known pl c past a.1)
@@ -125,7 +116,6 @@ known pl c (Finish d puts plan ∷ past) a = go (d == c) refl (known pl c past a
         let same : d ≡ c = grind (arith, nat_tests) in
         subst (λ x. SeatKnown (cond x (with_plan (seat c past) plan) (seat c past))) (sym b) (plan-known (seat c past) plan (a.0 same).0 ih)
     go false b ih = rw b ih
-known pl c (Ask turn ∷ past) a = known pl c past a.1
 known pl c (Deliver turn note ∷ past) a =
     let ih = known pl c past a.1 in
     let v = valid-at pl (seat c past) (λ sub want. finished c sub want past) (working pl c past a.1) in
@@ -133,7 +123,7 @@ known pl c (Deliver turn note ∷ past) a =
       | true ↦ ih
       | false ↦ deliver-known (seat c past) (user_of c past) (marks c past) (turn_mark c note past) note.rows v ih
     ]
-known pl c (Beat now ∷ past) a = known pl c past a.1
+known pl c (_ ∷ past) a = known pl c past a.1
 
 -- no change brings a subscription back, nor one under a number that was given
 stands-push : (s : ℕ) (xs : List Sub) (y : Sub) → (y.number == s) ≡ false → list_any (λ (x : Sub). x.number == s) (xs ++ y ∷ []) ≡ list_any (λ (x : Sub). x.number == s) xs
@@ -163,16 +153,13 @@ sub-keeps place s k change.Close l h = absurd (cc (h))
 
 -- what stands after a change stood before it
 still-keeps : (n : ℕ) (k : Conn) (c : Change) (q : Piece) → Valid n k → Known k.made n q → still (changed c (suc n) k) q ≡ true → still k q ≡ true
-still-keeps n k c (piece.Cmd read) v l h = refl
 still-keeps n k c (piece.Row sub want row) v l h = go (name_of sub.0 want.0 (changed c (suc n) k)) refl
   where
     go : (o : Option (List ℕ)) → name_of sub.0 want.0 (changed c (suc n) k) ≡ o → stands_want sub.0 want.0 k ≡ true
     go None o = let h' = rw o at h in absurd (cc (h'))
     go (Some name) o = ap is_some (changed-keeps n sub.0 want.0 k c name v l o)
 still-keeps n k c (piece.Confirm sub) v l h = sub-keeps (suc n) sub.0 k c (omega arith) h
-still-keeps n k c (piece.Remote reconnect) v l h = refl
-still-keeps n k c piece.Gone v l h = refl
-still-keeps n k c piece.Restart v l h = refl
+still-keeps n k c _ v l h = refl
 
 struck : (n m : ℕ) (k : Conn) (c : Change) (qs : List Piece) → Valid n k → AllKnown k.made n qs
     → filter (λ p. still (changed c (suc n) k) p.piece) (numbered m qs) ≡ filter (λ p. still (changed c (suc n) k) p.piece) (filter (λ p. still k p.piece) (numbered m qs))
@@ -189,9 +176,6 @@ struck n m k c (q ∷ qs) v a = go (still k q) refl (still (changed c (suc n) k)
     go true x false y ih = rw (x, y) ih
     go false x true y ih = let z = still-keeps n k c q v a.0 y in absurd (cc (x, z))
     go false x false y ih = rw (x, y) ih
-
-Valid-upto : (m n : ℕ) (k : Conn) → m ≤ n → Valid m k → Valid n k
-Valid-upto m n k l v = record { subs = Rises-upto (λ (x : Sub). x.number) 0 k.subs m n l v.subs; wants = v.wants }
 
 drop-rest : (s : Seat) (xs ys : List Piece) → s.pieces ≡ xs ++ ys → s.taken ≡ length xs → drop s.taken (numbered 0 s.pieces) ≡ numbered (length xs) ys
 drop-rest s xs ys p t = ap (λ ps. drop s.taken (numbered 0 ps)) p ∙ (ap (λ n. drop n (numbered 0 (xs ++ ys))) t ∙ (drop-numbered 0 xs ys ∙ ap (λ n. numbered n ys) (omega arith)))
@@ -222,12 +206,3 @@ plan-strikes pl s rows plan out ks v =
         subst (λ m. filter (λ p. still (changed plan.change m k) p.piece) (numbered (length xs) o.rest) ≡ filter (λ p. still (changed plan.change m k) p.piece) (filter (λ p. still k p.piece) (numbered (length xs) o.rest))) (sym place)
         (struck n (length xs) k plan.change o.rest valid known-now) in
         ap (filter (λ p. still k' p.piece)) here ∙ (struck-now ∙ ap (λ x. filter (λ p. still k' p.piece) (filter (λ p. still k p.piece) x)) (sym here))
-
--- a Finish strikes so
-pub finish-strikes : (pl : Planner) (c : ℕ) (puts : List (Option RowId)) (plan : Plan) (past : List Step) → AllWorked pl c (Finish c puts plan ∷ past)
-    → waiting (seat c (Finish c puts plan ∷ past)) ≡ filter (λ p. still (changed plan.change (seat c past).taken (seat c past).conn) p.piece) (waiting (seat c past))
-finish-strikes pl c puts plan past a =
-    let self : (c == c) ≡ true = grind (arith, nat_tests) in
-    let s = seat c past in
-    ap (λ b. waiting (cond b (with_plan s plan) s)) self
-    ∙ plan-strikes pl s (λ sub want. finished c sub want past) plan (a.0 refl).0 (known pl c past a.1) (working pl c past a.1)

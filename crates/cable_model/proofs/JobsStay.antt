@@ -2,7 +2,6 @@
 use Rattle.std.proofs.Common.{ℕ, ◌-◌, ◌≡◌, ◌==◌, Bool, true, false, cond, not, ◌&&◌, ◌||◌, List, [], ◌∷◌, ◌++◌, Some, None, Option, refl, ap, sym, subst, ◌∙◌, arith, is_some, ltb, slice_get, append_assoc}
 use Rattle.std.specs.List.{list_any}
 use Rattle.std.proofs.lemmas.Bool.Decides.{nat_tests}
-use Rattle.cable_base.specs.declared.numbers.RowId.{RowId}
 use Rattle.cable_base.specs.declared.rows.Row.{Row}
 use Rattle.cable_json.specs.Commands.{command_of}
 use Rattle.cable_model.specs.declared.pieces.Piece.{Piece}
@@ -18,6 +17,7 @@ use Rattle.cable_model.specs.Window.{job, finished}
 use Rattle.cable_model.specs.Possible.{has_job, planned, job_plan, opened, inserted, is_opened, is_live, is_receiving, is_booted, live_count, can_open}
 use Rattle.cable_model.specs.Legal.{Legal}
 use Rattle.cable_model.specs.Promise.{AllWorked}
+use Rattle.cable_model.proofs.Entries.{only-puts}
 use Rattle.cable_model.proofs.Working.{Working, working, get-split, put_all-more}
 use Rattle.cable_model.proofs.Jobs.{job-piece}
 use Rattle.cable_model.proofs.Stored.{HasPlan, has-plan}
@@ -46,22 +46,12 @@ plan-more pl r user s rows qs v = go (has_job s) refl
     go true b = ap (λ j. cond (has_job s) (planned r user s.conn j) None) (job-more pl s rows qs v b)
     go false b = rw b refl
 
-plan-put : (pl : Planner) (r : Callbacks) (user : Option (List ℕ)) (s : Seat) (rows : (sub want : ℕ) → List Row) (q : Piece) (b : Bool) → Working pl s rows → plan_at r user (cond b (with_put s q) s) ≡ plan_at r user s
-plan-put pl r user s rows q true v = plan-more pl r user s rows (q ∷ []) v
-plan-put pl r user s rows q false v = refl
-
 -- the entry is not an Open, a Take or a Finish of c
 abbrev pub keeps_job : ℕ → Step → Bool
-keeps_job c (Step.Boot last) = true
 keeps_job c (Step.Open d token user) = not (d == c)
-keeps_job c (Step.In d text) = true
-keeps_job c (Step.Drop d) = true
-keeps_job c Step.Stop = true
 keeps_job c (Step.Take d) = not (d == c)
 keeps_job c (Step.Finish d puts plan) = not (d == c)
-keeps_job c (Step.Ask turn) = true
-keeps_job c (Step.Deliver turn note) = true
-keeps_job c (Step.Beat now) = true
+keeps_job c _ = true
 
 not-own : (b : Bool) → not b ≡ true → b ≡ false
 not-own true h = sym h
@@ -69,30 +59,13 @@ not-own false h = refl
 
 -- so the job and its plan stay
 pub job-plan-stays : (pl : Planner) (r : Callbacks) (c : ℕ) (e : Step) (past : List Step) → AllWorked pl c past → keeps_job c e ≡ true → job_plan r c (e ∷ past) ≡ job_plan r c past
-job-plan-stays pl r c (Step.Boot last) past a h = refl
 job-plan-stays pl r c (Step.Open d token user) past a h =
     ap (λ b. plan_at r (cond b user (user_of c past)) (seat c past)) (not-own (d == c) h)
-job-plan-stays pl r c (Step.In d text) past a h = plan-put pl r (user_of c past) (seat c past) (λ s w. finished c s w past) (piece.Cmd (command_of text)) (d == c) (working pl c past a)
-job-plan-stays pl r c (Step.Drop d) past a h = plan-put pl r (user_of c past) (seat c past) (λ s w. finished c s w past) piece.Gone (d == c) (working pl c past a)
-job-plan-stays pl r c Step.Stop past a h = plan-put pl r (user_of c past) (seat c past) (λ s w. finished c s w past) piece.Restart (is_some (user_of c past)) (working pl c past a)
 job-plan-stays pl r c (Step.Take d) past a h = ap (λ b. plan_at r (user_of c past) (cond b (with_job (seat c past)) (seat c past))) (not-own (d == c) h)
 job-plan-stays pl r c (Step.Finish d puts plan) past a h = ap (λ b. plan_at r (user_of c past) (cond b (with_plan (seat c past) plan) (seat c past))) (not-own (d == c) h)
-job-plan-stays pl r c (Step.Ask turn) past a h = refl
-job-plan-stays pl r c (Step.Deliver turn note) past a h = go note.failed (working pl c past a)
-  where
-    go : (b : Bool) → Working pl (seat c past) (λ s w. finished c s w past)
-        → plan_at r (user_of c past) (cond b (seat c past) (with_all (seat c past) (deliver_puts (user_of c past) (marks c past) (turn_mark c note past) (seat c past).conn.subs note.rows))) ≡ plan_at r (user_of c past) (seat c past)
-    go true v = refl
-    go false v = plan-more pl r (user_of c past) (seat c past) (λ s w. finished c s w past) (deliver_puts (user_of c past) (marks c past) (turn_mark c note past) (seat c past).conn.subs note.rows) v
-job-plan-stays pl r c (Step.Beat now) past a h = refl
-
--- a Finish leaves no job out
-pub none-finished : (r : Callbacks) (c : ℕ) (puts : List (Option RowId)) (plan : Plan) (past : List Step) → job_plan r c (Step.Finish c puts plan ∷ past) ≡ None
-none-finished r c puts plan past =
-    let t : (c == c) ≡ true = grind (arith, nat_tests) in
-    let n : has_job (with_plan (seat c past) plan) ≡ false = grind (arith, nat_tests) in
-    ap (λ b. plan_at r (user_of c past) (cond b (with_plan (seat c past) plan) (seat c past))) t
-    ∙ ap (λ b. cond b (planned r (user_of c past) (with_plan (seat c past) plan).conn (job (with_plan (seat c past) plan))) None) n
+job-plan-stays pl r c e past a h =
+    let put = only-puts c e past refl in
+    ap (plan_at r (user_of c past)) put.1 ∙ plan-more pl r (user_of c past) (seat c past) (λ s w. finished c s w past) put.0 (working pl c past a)
 
 -- ---- a connection that was never opened
 
@@ -126,15 +99,7 @@ unopened-user c [] h = refl
 unopened-user c (Step.Open d token user ∷ past) h =
     let x = or-false (d == c) (is_opened c past) (sym (opened-now c d token user past) ∙ h) in
     ap (λ b. cond b user (user_of c past)) x.0 ∙ unopened-user c past x.1
-unopened-user c (Step.Boot last ∷ past) h = unopened-user c past h
-unopened-user c (Step.In d text ∷ past) h = unopened-user c past h
-unopened-user c (Step.Drop d ∷ past) h = unopened-user c past h
-unopened-user c (Step.Stop ∷ past) h = unopened-user c past h
-unopened-user c (Step.Take d ∷ past) h = unopened-user c past h
-unopened-user c (Step.Finish d puts plan ∷ past) h = unopened-user c past h
-unopened-user c (Step.Ask turn ∷ past) h = unopened-user c past h
-unopened-user c (Step.Deliver turn note ∷ past) h = unopened-user c past h
-unopened-user c (Step.Beat now ∷ past) h = unopened-user c past h
+unopened-user c (_ ∷ past) h = unopened-user c past h
 
 not-live : (c : ℕ) (past : List Step) → user_of c past ≡ None → is_live c past ≡ false
 not-live c past u = rw u refl
@@ -170,7 +135,6 @@ rows-none ms (row ∷ rows) = rows-none ms rows
 -- nothing was ever put on a connection without a user
 pub userless-seat : (c : ℕ) (past : List Step) → Legal past → user_of c past ≡ None → seat c past ≡ unseated
 userless-seat c [] l u = refl
-userless-seat c (Step.Boot last ∷ past) l u = userless-seat c past l.1 u
 userless-seat c (Step.Open d token user ∷ past) l u = userless-seat c past l.1 (before (d == c) refl)
   where
     before : (b : Bool) → (d == c) ≡ b → user_of c past ≡ None
@@ -202,7 +166,6 @@ userless-seat c (Step.Finish d puts plan ∷ past) l u = ap (λ b. cond b (with_
             let e : d ≡ c = grind (arith, nat_tests) in
             let o : user_of c past ≡ Some found.user = subst (λ x. user_of x past ≡ Some found.user) e found.opened in
             absurd (cc (u, o))
-userless-seat c (Step.Ask turn ∷ past) l u = userless-seat c past l.1 u
 userless-seat c (Step.Deliver turn note ∷ past) l u =
     let s = userless-seat c past l.1 u in
     let none : with_all (seat c past) (deliver_puts (user_of c past) (marks c past) (turn_mark c note past) (seat c past).conn.subs note.rows) ≡ unseated =
@@ -210,4 +173,4 @@ userless-seat c (Step.Deliver turn note ∷ past) l u =
     ∙ (ap (λ x. with_all x (deliver_puts None (marks c past) (turn_mark c note past) x.conn.subs note.rows)) s
     ∙ ap (with_all unseated) (ap (λ ps. ps ++ []) (rows-none (marks c past) note.rows))) in
     elim note.failed as (λ b. cond b (seat c past) (with_all (seat c past) (deliver_puts (user_of c past) (marks c past) (turn_mark c note past) (seat c past).conn.subs note.rows)) ≡ unseated) [ true ↦ s | false ↦ none ]
-userless-seat c (Step.Beat now ∷ past) l u = userless-seat c past l.1 u
+userless-seat c (_ ∷ past) l u = userless-seat c past l.1 u

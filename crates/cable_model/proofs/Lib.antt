@@ -1,4 +1,5 @@
 pub mod Cases
+pub mod Entries
 pub mod Folds
 pub mod Valid
 pub mod Puts

@@ -71,17 +71,9 @@ module _ (rows xs : List Row) (fresh : AllByRecursion (λ r. length rows < r.id.
 
   pub linked-more : (reads reads' : Reads) (past : List Step) → TurnsRise past → ((t : ℕ) → t ≤ delivered past → Agree reads reads' t) → AllLinked rows reads past → AllLinked (rows ++ xs) reads' past
   linked-more reads reads' [] n a l = tt
-  linked-more reads reads' (Step.Boot last ∷ past) n a l = (l.0, linked-more reads reads' past n a l.1)
-  linked-more reads reads' (Step.Open c token user ∷ past) n a l = (tt, linked-more reads reads' past n a l.1)
-  linked-more reads reads' (Step.In c text ∷ past) n a l = (tt, linked-more reads reads' past n a l.1)
-  linked-more reads reads' (Step.Drop c ∷ past) n a l = (tt, linked-more reads reads' past n a l.1)
-  linked-more reads reads' (Step.Stop ∷ past) n a l = (tt, linked-more reads reads' past n a l.1)
-  linked-more reads reads' (Step.Take c ∷ past) n a l = (tt, linked-more reads reads' past n a l.1)
-  linked-more reads reads' (Step.Finish c puts plan ∷ past) n a l = (tt, linked-more reads reads' past n a l.1)
-  linked-more reads reads' (Step.Ask turn ∷ past) n a l = (tt, linked-more reads reads' past n a l.1)
   linked-more reads reads' (Step.Deliver turn note ∷ past) n a l =
       (λ f. Fits-more reads reads' turn note (lower past) (a turn (omega arith)) (l.0 f), linked-more reads reads' past n.1 (λ t h. a t (omega (arith, n.0))) l.1)
-  linked-more reads reads' (Step.Beat now ∷ past) n a l = (tt, linked-more reads reads' past n a l.1)
+  linked-more reads reads' (_ ∷ past) n a l = (l.0, linked-more reads reads' past n a l.1)
 
 -- the note of a Read fits
 get-all : {A : Type 0} (P : A → Type 0) (xs : List A) (i : ℕ) (x : A) → AllByRecursion P xs → slice_get xs i ≡ Some x → P x

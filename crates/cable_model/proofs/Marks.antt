@@ -1,33 +1,25 @@
 -- The marks of a connection's turns, and how many wants were made before each.
-use Rattle.std.proofs.Common.{ℕ, ◌+◌, ◌≡◌, ◌≤◌, ◌==◌, Bool, true, false, cond, List, [], ◌∷◌, ◌++◌, Some, None, Option, refl, ap, ◌∙◌, arith, leb, is_some}
+use Rattle.std.proofs.Common.{ℕ, ◌+◌, ◌≡◌, ◌≤◌, ◌==◌, Bool, true, false, List, [], ◌∷◌, ◌++◌, Some, None, Option, refl, ap, ◌∙◌, arith, leb}
 use Rattle.std.proofs.lemmas.List.{append-nil}
 use Rattle.std.proofs.lemmas.Bool.Decides.{nat_tests}
-use Rattle.cable_json.specs.Commands.{command_of}
 use Rattle.cable_model.specs.declared.journals.ReadNote.{ReadNote}
-use Rattle.cable_model.specs.declared.pieces.Piece.TheVariants as piece
 use Rattle.cable_model.specs.declared.plans.Change.{Change}
 use Rattle.cable_model.specs.declared.plans.Change.TheVariants as change
-use Rattle.cable_model.specs.Steps.{Step, Boot, Open, In, Drop, Stop, Take, Finish, Ask, Deliver, Beat}
+use Rattle.cable_model.specs.Steps.{Step, Finish, Ask, Deliver}
 use Rattle.cable_model.specs.Connection.{Conn, changed}
 use Rattle.cable_model.specs.Wants.{Mark, marks, mark_of, turn_mark, user_of, made, makes, at_ask}
-use Rattle.cable_model.specs.Pieces.{seat, with_put, with_all, with_job, deliver_puts}
+use Rattle.cable_model.specs.Pieces.{seat}
+use Rattle.cable_model.proofs.Entries.{unfinished}
 
 pub made-at_ask : (c : ℕ) (past : List Step) → made c (at_ask past) ≤ made c past
 made-at_ask c [] = omega arith
 made-at_ask c (Ask turn ∷ past) = omega arith
-made-at_ask c (Boot last ∷ past) = made-at_ask c past
-made-at_ask c (Open d token user ∷ past) = made-at_ask c past
-made-at_ask c (In d text ∷ past) = made-at_ask c past
-made-at_ask c (Drop d ∷ past) = made-at_ask c past
-made-at_ask c (Stop ∷ past) = made-at_ask c past
-made-at_ask c (Take d ∷ past) = made-at_ask c past
 made-at_ask c (Finish d puts plan ∷ past) = go (d == c) refl (made-at_ask c past)
   where
     go : (b : Bool) → (d == c) ≡ b → made c (at_ask past) ≤ made c past → made c (at_ask past) ≤ made c (Finish d puts plan ∷ past)
     go true b ih = rw b (omega arith)
     go false b ih = rw b ih
-made-at_ask c (Deliver turn note ∷ past) = made-at_ask c past
-made-at_ask c (Beat now ∷ past) = made-at_ask c past
+made-at_ask c (_ ∷ past) = made-at_ask c past
 
 -- a mark, or else the other
 abbrev pub first_mark : Option ℕ → Option ℕ → Option ℕ
@@ -68,21 +60,12 @@ marked-made c w m (Finish d puts plan ∷ past) q = go (d == c) refl (marked-mad
     go : (b : Bool) → (d == c) ≡ b → w ≤ made c past → w ≤ made c (Finish d puts plan ∷ past)
     go true b ih = rw b (omega arith)
     go false b ih = rw b ih
-marked-made c w m (Ask turn ∷ past) q = marked-made c w m past q
-marked-made c w m (Boot last ∷ past) q = marked-made c w m past q
-marked-made c w m (Open d token user ∷ past) q = marked-made c w m past q
-marked-made c w m (In d text ∷ past) q = marked-made c w m past q
-marked-made c w m (Drop d ∷ past) q = marked-made c w m past q
-marked-made c w m (Stop ∷ past) q = marked-made c w m past q
-marked-made c w m (Take d ∷ past) q = marked-made c w m past q
-marked-made c w m (Beat now ∷ past) q = marked-made c w m past q
+marked-made c w m (_ ∷ past) q = marked-made c w m past q
 
 pub changed-makes : (x : Change) (p : ℕ) (k : Conn) → (changed x p k).made ≡ k.made + makes x
-changed-makes change.Nothing p k = omega arith
 changed-makes (change.Add identifier streams) p k = refl
 changed-makes (change.Streams identifier stops streams) p k = refl
-changed-makes (change.Remove identifier) p k = omega arith
-changed-makes change.Close p k = omega arith
+changed-makes _ p k = omega arith
 
 pub made-conn : (c : ℕ) (past : List Step) → (seat c past).conn.made ≡ made c past
 made-conn c [] = refl
@@ -91,19 +74,7 @@ made-conn c (Finish d puts plan ∷ past) = go (d == c) refl (made-conn c past)
     go : (b : Bool) → (d == c) ≡ b → (seat c past).conn.made ≡ made c past → (seat c (Finish d puts plan ∷ past)).conn.made ≡ made c (Finish d puts plan ∷ past)
     go true b ih = rw b (changed-makes plan.change (seat c past).taken (seat c past).conn ∙ ap (λ n. n + makes plan.change) ih)
     go false b ih = rw b ih
-made-conn c (Boot last ∷ past) = made-conn c past
-made-conn c (Open d token user ∷ past) = made-conn c past
-made-conn c (In d text ∷ past) = elim (d == c) as (λ b. (cond b (with_put (seat c past) (piece.Cmd (command_of text))) (seat c past)).conn.made ≡ made c past) [ true ↦ made-conn c past | false ↦ made-conn c past ]
-made-conn c (Drop d ∷ past) = elim (d == c) as (λ b. (cond b (with_put (seat c past) piece.Gone) (seat c past)).conn.made ≡ made c past) [ true ↦ made-conn c past | false ↦ made-conn c past ]
-made-conn c (Stop ∷ past) = elim (is_some (user_of c past)) as (λ b. (cond b (with_put (seat c past) piece.Restart) (seat c past)).conn.made ≡ made c past) [ true ↦ made-conn c past | false ↦ made-conn c past ]
-made-conn c (Take d ∷ past) = elim (d == c) as (λ b. (cond b (with_job (seat c past)) (seat c past)).conn.made ≡ made c past) [ true ↦ made-conn c past | false ↦ made-conn c past ]
-made-conn c (Ask turn ∷ past) = made-conn c past
-made-conn c (Deliver turn note ∷ past) =
-    elim note.failed as (λ b. (cond b (seat c past) (with_all (seat c past) (deliver_puts (user_of c past) (marks c past) (turn_mark c note past) (seat c past).conn.subs note.rows))).conn.made ≡ made c past) [
-      | true ↦ made-conn c past
-      | false ↦ made-conn c past
-    ]
-made-conn c (Beat now ∷ past) = made-conn c past
+made-conn c (e ∷ past) = ap (λ (k : Conn). k.made) (unfinished c e past refl).conn ∙ made-conn c past
 
 -- a missed turn marks nothing
 pub missed-marks : (c turn : ℕ) (note : ReadNote) (past : List Step) → note.failed ≡ true → marks c (Deliver turn note ∷ past) ≡ marks c past

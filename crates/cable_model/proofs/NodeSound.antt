@@ -16,6 +16,7 @@ use Rattle.cable_model.specs.Table.{TableStep, commits, last_id, read_of, asked_
 use Rattle.cable_model.specs.History.{Rules, hashes_of}
 use Rattle.cable_model.specs.HistoryLaws.{last_at, planner_of}
 use Rattle.cable_model.specs.Promise.{AllWorked, Fits, Linked, AllLinked}
+use Rattle.cable_model.proofs.Entries.{turnless, KeepsTurn, keeps-turn}
 use Rattle.cable_model.proofs.Marks.{marked-made}
 use Rattle.cable_model.proofs.Asking.{AsksHeld, AllAskHeld}
 use Rattle.cable_model.proofs.Linking.{TurnsRise, delivered, Agree, Fits-more, linked-more}
@@ -49,15 +50,7 @@ lasts-more : (hash : List ℕ → ℤ) (n : ℕ) (now table : List TableStep) (p
 lasts-more hash n now table [] r same l = tt
 lasts-more hash n now table (Step.Deliver turn note ∷ past) r same l =
     (λ f. l.0 f ∙ sym (same turn (omega arith)).last, lasts-more hash n now table past r.1 (λ t h. same t (omega (arith, r.0))) l.1)
-lasts-more hash n now table (Step.Ask turn ∷ past) r same l = (tt, lasts-more hash n now table past r same l.1)
-lasts-more hash n now table (Step.Boot last ∷ past) r same l = (tt, lasts-more hash n now table past r same l.1)
-lasts-more hash n now table (Step.Open c token user ∷ past) r same l = (tt, lasts-more hash n now table past r same l.1)
-lasts-more hash n now table (Step.In c text ∷ past) r same l = (tt, lasts-more hash n now table past r same l.1)
-lasts-more hash n now table (Step.Drop c ∷ past) r same l = (tt, lasts-more hash n now table past r same l.1)
-lasts-more hash n now table (Step.Stop ∷ past) r same l = (tt, lasts-more hash n now table past r same l.1)
-lasts-more hash n now table (Step.Take c ∷ past) r same l = (tt, lasts-more hash n now table past r same l.1)
-lasts-more hash n now table (Step.Finish c puts plan ∷ past) r same l = (tt, lasts-more hash n now table past r same l.1)
-lasts-more hash n now table (Step.Beat at ∷ past) r same l = (tt, lasts-more hash n now table past r same l.1)
+lasts-more hash n now table (_ ∷ past) r same l = (tt, lasts-more hash n now table past r same l.1)
 
 module _ (r : Rules) (n : ℕ) where
   -- what is known of the turn that is out, once it is read
@@ -96,51 +89,21 @@ module _ (r : Rules) (n : ℕ) where
 
   -- ---- entries of the node
 
-  -- an entry that is no Boot and of no turn
-  abbrev pub is_plain : Step → Bool
-  is_plain (Step.Boot last) = false
-  is_plain (Step.Open c token user) = true
-  is_plain (Step.In c text) = true
-  is_plain (Step.Drop c) = true
-  is_plain Step.Stop = true
-  is_plain (Step.Take c) = true
-  is_plain (Step.Finish c puts plan) = true
-  is_plain (Step.Ask turn) = false
-  is_plain (Step.Deliver turn note) = false
-  is_plain (Step.Beat now) = true
-
-  -- what such an entry leaves as it is
+  -- what an entry that is no Boot and of no turn leaves besides
   record Plain (table : List TableStep) (e : Step) (past : List Step) : Type 0 where
-    pub low : lower (e ∷ past) ≡ lower past
     pub before : delivered (e ∷ past) ≡ delivered past
-    pub turn : last_turn (e ∷ past) ≡ last_turn past
-    pub out : is_out (e ∷ past) ≡ is_out past
-    pub same : (c : ℕ) → marks c (e ∷ past) ≡ marks c past
     pub turns : TurnsRise past → TurnsRise (e ∷ past)
     pub linked : Linked (commits table) (reads_of r.hash n table) e past
     pub lasts : LastIs n table e
     pub asks : (c : ℕ) → AsksHeld (reads_of r.hash n table) c e past
 
-  plain : (table : List TableStep) (e : Step) (past : List Step) → is_plain e ≡ true → Plain table e past
+  plain : (table : List TableStep) (e : Step) (past : List Step) → turnless e ≡ true → Plain table e past
   plain table (Step.Boot last) past h = absurd (cc (h))
-  plain table (Step.Open c token user) past h =
-      record { low = refl; before = refl; turn = refl; out = refl; same = λ d. refl; turns = λ t. t; linked = tt; lasts = tt; asks = λ d. tt }
-  plain table (Step.In c text) past h =
-      record { low = refl; before = refl; turn = refl; out = refl; same = λ d. refl; turns = λ t. t; linked = tt; lasts = tt; asks = λ d. tt }
-  plain table (Step.Drop c) past h =
-      record { low = refl; before = refl; turn = refl; out = refl; same = λ d. refl; turns = λ t. t; linked = tt; lasts = tt; asks = λ d. tt }
-  plain table Step.Stop past h =
-      record { low = refl; before = refl; turn = refl; out = refl; same = λ d. refl; turns = λ t. t; linked = tt; lasts = tt; asks = λ d. tt }
-  plain table (Step.Take c) past h =
-      record { low = refl; before = refl; turn = refl; out = refl; same = λ d. refl; turns = λ t. t; linked = tt; lasts = tt; asks = λ d. tt }
-  plain table (Step.Finish c puts plan) past h =
-      record { low = refl; before = refl; turn = refl; out = refl; same = λ d. refl; turns = λ t. t; linked = tt; lasts = tt; asks = λ d. tt }
   plain table (Step.Ask turn) past h = absurd (cc (h))
   plain table (Step.Deliver turn note) past h = absurd (cc (h))
-  plain table (Step.Beat now) past h =
-      record { low = refl; before = refl; turn = refl; out = refl; same = λ d. refl; turns = λ t. t; linked = tt; lasts = tt; asks = λ d. tt }
+  plain table _ past h = record { before = refl; turns = λ t. t; linked = tt; lasts = tt; asks = λ d. tt }
 
-  pub plain-sound : (table : List TableStep) (e : Step) (past : List Step) → is_plain e ≡ true
+  pub plain-sound : (table : List TableStep) (e : Step) (past : List Step) → turnless e ≡ true
       → ((c : ℕ) (pl : Planner) → PlansFor r.callbacks pl (user_of c (e ∷ past)) → AllWorked pl c (e ∷ past)) → NodeSound table past → NodeSound table (e ∷ past)
   plain-sound table e past h worked s =
       record {
@@ -148,27 +111,30 @@ module _ (r : Rules) (n : ℕ) where
         linked = (p.linked, s.linked);
         lasts = (p.lasts, s.lasts);
         asks = λ c. (p.asks c, s.asks c);
-        low = rw p.low s.low;
+        low = rw kept.low s.low;
         turns = p.turns s.turns;
-        last = rw (p.before, p.turn) s.last;
-        out = λ o. rw (p.before, p.turn) (s.out (sym p.out ∙ o));
-        unread = λ t l. s.unread t (subst (λ m. m < t) p.turn l);
-        caught = λ o note q. keeps note (s.caught (sym p.out ∙ o) note (sym (ap (λ t. read_of n t table) p.turn) ∙ q));
+        last = rw (p.before, kept.turn) s.last;
+        out = λ o. rw (p.before, kept.turn) (s.out (sym kept.out ∙ o));
+        unread = λ t l. s.unread t (subst (λ m. m < t) kept.turn l);
+        caught = λ o note q. keeps note (s.caught (sym kept.out ∙ o) note (sym (ap (λ t. read_of n t table) kept.turn) ∙ q));
       }
     where
+      kept : KeepsTurn e past
+      kept = keeps-turn e past h
+
       p : Plain table e past
       p = plain table e past h
 
       keeps : (note : ReadNote) → Caught table past note → Caught table (e ∷ past) note
       keeps note k =
           record {
-            fits = λ f. subst (λ t. Fits (commits table) (reads_of r.hash n table) t note (lower (e ∷ past))) (sym p.turn)
-                (subst (Fits (commits table) (reads_of r.hash n table) (last_turn past) note) (sym p.low) (k.fits f));
-            last = λ f. k.last f ∙ sym (ap (λ t. last_at n t table) p.turn);
+            fits = λ f. subst (λ t. Fits (commits table) (reads_of r.hash n table) t note (lower (e ∷ past))) (sym kept.turn)
+                (subst (Fits (commits table) (reads_of r.hash n table) (last_turn past) note) (sym kept.low) (k.fits f));
+            last = λ f. k.last f ∙ sym (ap (λ t. last_at n t table) kept.turn);
             held = λ c x w mark name o q row b.
                 let user = user_of c (e ∷ past) in
-                let o' : mark_of w (marks c past) ≡ Some mark = sym (ap (mark_of w) (p.same c)) ∙ o in
-                ap (λ t. asked_at r.hash n table t row) p.turn
+                let o' : mark_of w (marks c past) ≡ Some mark = sym (ap (mark_of w) (kept.same c)) ∙ o in
+                ap (λ t. asked_at r.hash n table t row) kept.turn
                 ∙ k.held c x w mark name o' (conn-keeps (planner_of r.callbacks user) c x w name e past (worked c (planner_of r.callbacks user) (plans-for r.callbacks user)) (marked-made c w mark past o') q) row b;
           }
 

@@ -32,12 +32,10 @@ pub live-push : (pl : Planner) (s w : ℕ) (ps : List Piece) (q : Piece) → liv
 live-push pl s w ps q = live_from-append pl s w 0 fresh ps (q ∷ []) ∙ ap (λ rs. live pl s w ps ++ rs) (append-nil (row_of s w (fold pl ps) q))
 
 closes : (pl : Planner) (n : ℕ) (k : Conn) (q : Piece) → is_closing q ≡ true → (worked pl n k q).subs ≡ []
-closes pl n k (piece.Cmd read) h = absurd (cc (h))
-closes pl n k (piece.Row sub want row) h = absurd (cc (h))
-closes pl n k (piece.Confirm sub) h = absurd (cc (h))
 closes pl n k (piece.Remote reconnect) h = refl
 closes pl n k piece.Gone h = refl
 closes pl n k piece.Restart h = refl
+closes pl n k _ h = absurd (cc (h))
 
 pub put-Ended : (pl : Planner) (ps : List Piece) (q : Piece) → Ended pl ps → Ended pl (put ps q)
 put-Ended pl ps q d = go (closing ps) refl
@@ -67,20 +65,14 @@ put-live pl s w ps q d = go (closing ps) refl
 
 -- a piece that changes nothing
 abbrev pub quiet : Piece → Bool
-quiet (piece.Cmd read) = false
 quiet (piece.Row sub want row) = true
 quiet (piece.Confirm sub) = true
-quiet (piece.Remote reconnect) = false
-quiet piece.Gone = false
-quiet piece.Restart = false
+quiet _ = false
 
 pub worked-quiet : (pl : Planner) (n : ℕ) (k : Conn) (q : Piece) → quiet q ≡ true → worked pl n k q ≡ k
-worked-quiet pl n k (piece.Cmd read) h = absurd (cc (h))
 worked-quiet pl n k (piece.Row sub want row) h = refl
 worked-quiet pl n k (piece.Confirm sub) h = refl
-worked-quiet pl n k (piece.Remote reconnect) h = absurd (cc (h))
-worked-quiet pl n k piece.Gone h = absurd (cc (h))
-worked-quiet pl n k piece.Restart h = absurd (cc (h))
+worked-quiet pl n k _ h = absurd (cc (h))
 
 pub put-quiet : (pl : Planner) (ps : List Piece) (q : Piece) → quiet q ≡ true → fold pl (put ps q) ≡ fold pl ps
 put-quiet pl ps q h = go (closing ps) refl

@@ -10,7 +10,7 @@ use Rattle.cable_json.specs.Commands.{command_of}
 use Rattle.cable_model.specs.declared.journals.ReadNote.{ReadNote}
 use Rattle.cable_model.specs.declared.pieces.Piece.{Piece}
 use Rattle.cable_model.specs.declared.pieces.Piece.TheVariants as piece
-use Rattle.cable_model.specs.Steps.{Step, Boot, Open, In, Drop, Stop, Take, Finish, Ask, Deliver, Beat}
+use Rattle.cable_model.specs.Steps.{Step, Boot, In, Drop, Stop, Take, Finish, Deliver}
 use Rattle.cable_model.specs.Connection.{Planner, fresh, fold_from, fold, name_in, name_of}
 use Rattle.cable_model.specs.Wants.{Mark, marks, mark_of, turn_mark, user_of, lower}
 use Rattle.cable_model.specs.Pieces.{put, put_all, seat, below, deliver_puts, with_put, with_all, with_job, with_plan}
@@ -93,9 +93,6 @@ module _ (pl : Planner) (reads : Reads) (rows : List Row) (top : ℕ) (rising : 
     pieces-now : (seat c now).pieces ≡ put_all (seat c past).pieces (deliver_puts (user_of c past) (marks c past) (turn_mark c note past) (seat c past).conn.subs note.rows)
     pieces-now =
         ap (λ b. (cond b (seat c past) (with_all (seat c past) (deliver_puts (user_of c past) (marks c past) (turn_mark c note past) (seat c past).conn.subs note.rows))).pieces) f
-
-    lower-now : lower now ≡ note.upto.0
-    lower-now = ap (λ b. cond b (lower past) note.upto.0) f
 
     added : live pl s w (seat c now).pieces ≡ live pl s w (seat c past).pieces ++ filter (λ r. found r && tests r) rows
     added =
@@ -218,7 +215,6 @@ module _ (pl : Planner) (reads : Reads) (rows : List Row) (top : ℕ) (rising : 
   pub reached : (past : List Step) → AllWorked pl c past → AllLinked rows reads past → ReachedAt past
   reached [] a l = nothing-reached 0
   reached (Boot last ∷ past) a l = let e : past ≡ [] = l.0 in subst (λ x. ReachedAt (Boot last ∷ x)) (sym e) (nothing-reached last)
-  reached (Open d token user ∷ past) a l = reached past a.1 l.1
   reached (In d text ∷ past) a l = putting (d == c) (piece.Cmd (command_of text)) past refl (working pl c past a.1) (reached past a.1 l.1)
   reached (Drop d ∷ past) a l = putting (d == c) piece.Gone past refl (working pl c past a.1) (reached past a.1 l.1)
   reached (Stop ∷ past) a l = putting (is_some (user_of c past)) piece.Restart past refl (working pl c past a.1) (reached past a.1 l.1)
@@ -228,11 +224,10 @@ module _ (pl : Planner) (reads : Reads) (rows : List Row) (top : ℕ) (rising : 
   reached (Finish d puts plan ∷ past) a l =
       let r = reached past a.1 l.1 in
       elim (d == c) as (λ b. Reached (cond b (with_plan (seat c past) plan) (seat c past)).pieces (marks c past) (lower past) (λ id. first_reach c w id past)) [ true ↦ r | false ↦ r ]
-  reached (Ask turn ∷ past) a l = reached past a.1 l.1
-  reached (Beat n ∷ past) a l = reached past a.1 l.1
   reached (Deliver turn note ∷ past) a l = go note.failed refl (mark_of w (marks c past)) refl (reached past a.1 l.1) (working pl c past a.1)
     where
       go : (b : Bool) → note.failed ≡ b → (o : Option ℕ) → mark_of w (marks c past) ≡ o → ReachedAt past → WorkingAt pl c past → ReachedAt (Deliver turn note ∷ past)
       go true f o o' ih v = missed turn note past f ih
       go false f None o ih v = deliver-unmarked turn note past f (l.0 f) v o ih
       go false f (Some m) o ih v = deliver-marked turn note past f (l.0 f) v m o ih
+  reached (_ ∷ past) a l = reached past a.1 l.1

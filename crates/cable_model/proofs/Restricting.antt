@@ -17,6 +17,7 @@ use Rattle.cable_model.specs.Possible.{can_open, can_put_command, can_drop, can_
 use Rattle.cable_model.specs.History.{Rules, World, start, run, happen, happened, is_possible, at_number, at_home, home_of, new_id, row_id, next_cast, offered, committed, finish, deliver, turn_note, hashes_of, trim_count, boot}
 use Rattle.cable_model.specs.Legal.{Legal, LegalStep, stored_plans}
 use Rattle.cable_model.specs.Restrictions.{LegalRestrictions}
+use Rattle.cable_model.proofs.Entries.{turnless, KeepsTurn, keeps-turn}
 use Rattle.cable_model.proofs.Stored.{stored-works}
 use Rattle.cable_model.proofs.Answering.{always-answered}
 use Rattle.cable_model.proofs.TableLegal.{legal-table}
@@ -89,54 +90,24 @@ module _ (r : Rules) (w : World) (n : ℕ) (e : Step) (puts : ℕ → List (Opti
 
 -- ---- an entry that keeps the turn and the jobs of all but one connection
 
--- the entry is of no turn
-abbrev turnless : Step → Bool
-turnless (Step.Boot last) = false
-turnless (Step.Open c token user) = true
-turnless (Step.In c text) = true
-turnless (Step.Drop c) = true
-turnless Step.Stop = true
-turnless (Step.Take c) = true
-turnless (Step.Finish c puts plan) = true
-turnless (Step.Ask turn) = false
-turnless (Step.Deliver turn note) = false
-turnless (Step.Beat now) = true
-
-record SameTurn (e : Step) (past : List Step) : Type 0 where
-  turn_is : last_turn (e ∷ past) ≡ last_turn past
-  out_is : is_out (e ∷ past) ≡ is_out past
-  lower_is : lower (e ∷ past) ≡ lower past
-
-same-turn : (e : Step) (past : List Step) → turnless e ≡ true → SameTurn e past
-same-turn (Step.Boot last) past h = absurd (cc (h))
-same-turn (Step.Open c token user) past h = record { turn_is = refl; out_is = refl; lower_is = refl }
-same-turn (Step.In c text) past h = record { turn_is = refl; out_is = refl; lower_is = refl }
-same-turn (Step.Drop c) past h = record { turn_is = refl; out_is = refl; lower_is = refl }
-same-turn Step.Stop past h = record { turn_is = refl; out_is = refl; lower_is = refl }
-same-turn (Step.Take c) past h = record { turn_is = refl; out_is = refl; lower_is = refl }
-same-turn (Step.Finish c puts plan) past h = record { turn_is = refl; out_is = refl; lower_is = refl }
-same-turn (Step.Ask turn) past h = absurd (cc (h))
-same-turn (Step.Deliver turn note) past h = absurd (cc (h))
-same-turn (Step.Beat now) past h = record { turn_is = refl; out_is = refl; lower_is = refl }
-
 module _ (r : Rules) (w : World) (l : Lawful r w) where
   -- a job that the entry keeps has its commits within its plan's casts
   kept-within : (n c : ℕ) (e : Step) → keeps_job c e ≡ true → w.home c ≡ Some n → Within (w.puts c) (job_plan r.callbacks c (e ∷ w.nodes n))
   kept-within n c e k q p g =
       l.puts_are c n q p (sym (job-plan-stays (stored_plans c (w.nodes n)) r.callbacks c e (w.nodes n) (stored-works c (w.nodes n) (l.nodes_are n)) k) ∙ g)
 
-  turn-lower : (n : ℕ) (e : Step) → SameTurn e (w.nodes n) → is_out (e ∷ w.nodes n) ≡ true → (note : ReadNote) → read_of n (last_turn (e ∷ w.nodes n)) w.table ≡ Some note → note.lower.0 ≡ lower (e ∷ w.nodes n)
+  turn-lower : (n : ℕ) (e : Step) → KeepsTurn e (w.nodes n) → is_out (e ∷ w.nodes n) ≡ true → (note : ReadNote) → read_of n (last_turn (e ∷ w.nodes n)) w.table ≡ Some note → note.lower.0 ≡ lower (e ∷ w.nodes n)
   turn-lower n e s o note q =
-      l.lowers n (sym s.out_is ∙ o) note (subst (λ t. read_of n t w.table ≡ Some note) s.turn_is q) ∙ sym s.lower_is
+      l.lowers n (sym s.out ∙ o) note (subst (λ t. read_of n t w.table ≡ Some note) s.turn q) ∙ sym s.low
 
   -- an entry that keeps every job
   plain : (n : ℕ) (e : Step) → LegalStep e (w.nodes n) → turnless e ≡ true → ((c : ℕ) → keeps_job c e ≡ true) → Lawful r (entered w n e w.puts w.home)
   plain n e h t k =
-      let s = same-turn e (w.nodes n) t in
+      let s = keeps-turn e (w.nodes n) t in
       enters r w n e w.puts w.home l
       (record {
         legal = h;
-        later = omega (arith, s.turn_is);
+        later = omega (arith, s.turn);
         lower_is = turn-lower n e s;
         own = λ c q. kept-within n c e (k c) q;
         others = λ c m q d. (q, refl);
@@ -146,11 +117,11 @@ module _ (r : Rules) (w : World) (l : Lawful r w) where
   emptied : (n c : ℕ) (e : Step) → LegalStep e (w.nodes n) → turnless e ≡ true → ((d : ℕ) → (d == c) ≡ false → keeps_job d e ≡ true) → w.home c ≡ Some n
       → Lawful r (entered w n e (at_number c [] w.puts) w.home)
   emptied n c e h t k home =
-      let s = same-turn e (w.nodes n) t in
+      let s = keeps-turn e (w.nodes n) t in
       enters r w n e (at_number c [] w.puts) w.home l
       (record {
         legal = h;
-        later = omega (arith, s.turn_is);
+        later = omega (arith, s.turn);
         lower_is = turn-lower n e s;
         own = λ d q. own d q (d == c) refl;
         others = λ d m q differ. (q, other d m q differ (d == c) refl);
@@ -261,7 +232,7 @@ module _ (r : Rules) (a : AlwaysAnswer r.callbacks) (w : World) (l : Lawful r w)
       (record {
         legal = h;
         later = omega arith;
-        lower_is = turn-lower r w l n (Step.Open c token user) (same-turn (Step.Open c token user) (w.nodes n) refl);
+        lower_is = turn-lower r w l n (Step.Open c token user) (keeps-turn (Step.Open c token user) (w.nodes n) refl);
         own = λ d q. own d (d == c) refl q;
         others = λ d m q differ. others d m differ (d == c) refl q;
       })

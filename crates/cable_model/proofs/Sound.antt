@@ -12,11 +12,10 @@ use Rattle.cable_model.specs.declared.events.Event.{Event}
 use Rattle.cable_model.specs.declared.events.Event.TheVariants as event
 use Rattle.cable_model.specs.declared.journals.ReadNote.{ReadNote}
 use Rattle.cable_model.specs.declared.pieces.Piece.{Piece}
-use Rattle.cable_model.specs.declared.pieces.Piece.TheVariants as piece
 use Rattle.cable_model.specs.declared.plans.Plan.{Plan}
 use Rattle.cable_model.specs.Steps.{Step}
-use Rattle.cable_model.specs.Connection.{Conn, Sub, Planner, change_of}
-use Rattle.cable_model.specs.Plans.{plan_of, plan_for, planner, row_task, confirm_task, sub_numbered}
+use Rattle.cable_model.specs.Connection.{Planner, change_of}
+use Rattle.cable_model.specs.Plans.{planner}
 use Rattle.cable_model.specs.Wants.{lower, user_of}
 use Rattle.cable_model.specs.Pieces.{seat, waiting}
 use Rattle.cable_model.specs.Window.{job}
@@ -24,9 +23,11 @@ use Rattle.cable_model.specs.Table.{Offer, TableStep, commits, last_id, note_of,
 use Rattle.cable_model.specs.Possible.{is_out, last_turn, is_booted, is_empty, is_live, has_job, job_plan, can_take, can_open, can_put_command}
 use Rattle.cable_model.specs.History.{Rules, World, start, at_number, logged, tabled, stored, with_puts, with_home, hashes_of, new_id, row_id, next_cast, offered, committed, trim_count, turn_note, caught, at_home, home_of, finish, deliver, boot, arrive, is_possible, happened, happen, run}
 use Rattle.cable_model.specs.Promise.{Fits, AllWorked}
+use Rattle.cable_model.proofs.Entries.{turnless}
 use Rattle.cable_model.proofs.Delivered.{id_of}
 use Rattle.cable_model.proofs.Linking.{note-fits}
-use Rattle.cable_model.proofs.NodeSound.{PlansFor, NodeSound, SameTurn, is_plain, empty-sound, plain-sound, ask-sound, deliver-sound, boot-sound, more-sound, read-sound}
+use Rattle.cable_model.proofs.Stored.{HasPlan, has-plan, plan-change}
+use Rattle.cable_model.proofs.NodeSound.{PlansFor, NodeSound, SameTurn, empty-sound, plain-sound, ask-sound, deliver-sound, boot-sound, more-sound, read-sound}
 
 -- ---- tests that are true
 
@@ -53,44 +54,26 @@ home-test w c test = go (w.home c) refl
 -- ---- the change of a job's plan is the planned one
 
 module _ (r : Rules) where
-  plan-change : (u : List ℕ) (k : Conn) (p : Piece) (place : ℕ) → (plan_of r.callbacks u k p).change ≡ change_of (planner r.callbacks u) place k p
-  plan-change u k (piece.Cmd read) place = refl
-  plan-change u k (piece.Row sub want row) place = go (sub_numbered sub.0 k)
-    where
-      go : (o : Option Sub) → (plan_for r.callbacks u (row_task row.payload o)).change ≡ change_of (planner r.callbacks u) place k (piece.Row sub want row)
-      go None = refl
-      go (Some s) = refl
-  plan-change u k (piece.Confirm sub) place = go (sub_numbered sub.0 k)
-    where
-      go : (o : Option Sub) → (plan_for r.callbacks u (confirm_task o)).change ≡ change_of (planner r.callbacks u) place k (piece.Confirm sub)
-      go None = refl
-      go (Some s) = refl
-  plan-change u k (piece.Remote reconnect) place = refl
-  plan-change u k piece.Gone place = refl
-  plan-change u k piece.Restart place = refl
-
   -- what is known of a plan that is out
   record Out (c : ℕ) (past : List Step) (plan : Plan) : Type 0 where
     pub busy : has_job (seat c past) ≡ true
     pub change : (pl : Planner) → PlansFor r.callbacks pl (user_of c past) → (p : Piece) → job (seat c past) ≡ Some p → plan.change ≡ change_of pl (seat c past).taken (seat c past).conn p
 
   job-out : (c : ℕ) (past : List Step) (plan : Plan) → job_plan r.callbacks c past ≡ Some plan → Out c past plan
-  job-out c past plan e = go (has_job (seat c past)) refl (user_of c past) refl
+  job-out c past plan e = record { busy = h.out; change = change }
     where
-      go : (b : Bool) → has_job (seat c past) ≡ b → (o : Option (List ℕ)) → user_of c past ≡ o → Out c past plan
-      go false b o o' = let e' = rw b at e in absurd (cc (e'))
-      go true b None o = let e' = rw (b, o) at e in absurd (cc (e'))
-      go true b (Some v) o = record { busy = b; change = change }
-        where
-          change : (pl : Planner) → PlansFor r.callbacks pl (user_of c past) → (p : Piece) → job (seat c past) ≡ Some p → plan.change ≡ change_of pl (seat c past).taken (seat c past).conn p
-          change pl (inr none) p j = absurd (cc (none, o))
-          change pl (inl (u, e', is)) p j =
-              let same : u ≡ v = cc (o, e') in
-              let q = rw (b, o, j) at e in
-              let plan_is : plan_of r.callbacks v (seat c past).conn p ≡ plan = cc (q) in
-              ap (λ x. x.change) (sym plan_is)
-              ∙ (plan-change v (seat c past).conn p (seat c past).taken
-              ∙ (ap (λ x. change_of (planner r.callbacks x) (seat c past).taken (seat c past).conn p) (sym same) ∙ ap (λ x. change_of x (seat c past).taken (seat c past).conn p) (sym is)))
+      h : HasPlan r.callbacks c past plan
+      h = has-plan r.callbacks c past plan e
+
+      change : (pl : Planner) → PlansFor r.callbacks pl (user_of c past) → (p : Piece) → job (seat c past) ≡ Some p → plan.change ≡ change_of pl (seat c past).taken (seat c past).conn p
+      change pl (inr none) p j = let o = h.opened in absurd (cc (none, o))
+      change pl (inl (u, o, is)) p j =
+          let user : h.user ≡ u = cc (h.opened, o) in
+          let taken : h.taken ≡ p = cc (h.job_is, j) in
+          ap (λ x. x.change) h.plan_is
+          ∙ (plan-change r.callbacks h.user (seat c past).taken (seat c past).conn h.taken
+          ∙ (ap (λ x. change_of (planner r.callbacks x) (seat c past).taken (seat c past).conn h.taken) user
+          ∙ (ap (λ x. change_of x (seat c past).taken (seat c past).conn h.taken) (sym is) ∙ ap (change_of pl (seat c past).taken (seat c past).conn) taken)))
 
   -- ---- worlds
 
@@ -113,7 +96,7 @@ module _ (r : Rules) where
       none c h m false b = rw b (s.closed c h m)
 
   -- an entry that is no Open, no Boot and of no turn
-  simple : (w : World) (n : ℕ) (e : Step) → is_plain r n e ≡ true → ((c : ℕ) → user_of c (e ∷ w.nodes n) ≡ user_of c (w.nodes n))
+  simple : (w : World) (n : ℕ) (e : Step) → turnless e ≡ true → ((c : ℕ) → user_of c (e ∷ w.nodes n) ≡ user_of c (w.nodes n))
       → ((c : ℕ) (pl : Planner) → PlansFor r.callbacks pl (user_of c (w.nodes n)) → AllWorked pl c (e ∷ w.nodes n)) → Sound w → Sound (logged w n e)
   simple w n e p same worked s =
       logged-sound w n e s (plain-sound r n w.table e (w.nodes n) p (λ c pl m. worked c pl (subst (PlansFor r.callbacks pl) (same c) m)) (s.nodes n)) (λ c h. same c ∙ s.closed c h n)

@@ -1,9 +1,7 @@
 -- A legal journal is worked by its own stored plans.
-use Rattle.std.proofs.Common.{ℕ, ◌≡◌, ◌<◌, ◌≤◌, ◌==◌, Bool, true, false, cond, ◌&&◌, List, [], ◌∷◌, Some, None, Option, refl, ap, sym, subst, ◌∙◌, arith, not, is_some}
+use Rattle.std.proofs.Common.{ℕ, ◌≡◌, ◌<◌, ◌≤◌, ◌==◌, Bool, true, false, cond, ◌&&◌, List, [], ◌∷◌, Some, None, Option, refl, ap, sym, subst, ◌∙◌, arith, not}
 use Rattle.std.specs.Prelude.{Result}
 use Rattle.std.proofs.lemmas.Bool.Decides.{nat_tests}
-use Rattle.cable_base.specs.declared.numbers.RowId.{RowId}
-use Rattle.cable_json.specs.Commands.{command_of}
 use Rattle.cable_json.specs.declared.commands.Command.{Command}
 use Rattle.cable_json.specs.declared.commands.CommandFault.{CommandFault}
 use Rattle.cable_model.specs.declared.pieces.Piece.{Piece}
@@ -12,23 +10,21 @@ use Rattle.cable_model.specs.declared.plans.Plan.{Plan}
 use Rattle.cable_model.specs.Steps.{Step}
 use Rattle.cable_model.specs.Connection.{Conn, Planner, change_of}
 use Rattle.cable_model.specs.Plans.{Callbacks, plan_of, plan_for, planner, sub_numbered, row_task, confirm_task}
-use Rattle.cable_model.specs.Wants.{user_of, marks, turn_mark}
-use Rattle.cable_model.specs.Pieces.{Seat, seat, waiting, with_put, with_all, with_job, with_plan, deliver_puts}
+use Rattle.cable_model.specs.Wants.{user_of}
+use Rattle.cable_model.specs.Pieces.{Seat, seat, waiting, with_plan}
 use Rattle.cable_model.specs.Window.{job}
 use Rattle.cable_model.specs.Possible.{is_live, has_job, is_empty, job_plan}
 use Rattle.cable_model.specs.Legal.{LegalStep, Legal, stored_plans}
 use Rattle.cable_model.specs.Promise.{AllWorked}
+use Rattle.cable_model.proofs.Entries.{finishes, unfinished}
 
 -- what a plan changes is what the planner says of its piece
 pub plan-change : (r : Callbacks) (user : List ℕ) (place : ℕ) (k : Conn) (p : Piece) → (plan_of r user k p).change ≡ change_of (planner r user) place k p
-plan-change r user place k (piece.Cmd read) = refl
 plan-change r user place k (piece.Row sub want row) =
     elim (sub_numbered sub.0 k) as (λ o. (plan_for r user (row_task row.payload o)).change ≡ change_of (planner r user) place k (piece.Row sub want row)) [ None ↦ refl | Some s ↦ refl ]
 plan-change r user place k (piece.Confirm sub) =
     elim (sub_numbered sub.0 k) as (λ o. (plan_for r user (confirm_task o)).change ≡ change_of (planner r user) place k (piece.Confirm sub)) [ None ↦ refl | Some s ↦ refl ]
-plan-change r user place k (piece.Remote reconnect) = refl
-plan-change r user place k piece.Gone = refl
-plan-change r user place k piece.Restart = refl
+plan-change r user place k _ = refl
 
 -- what stands where a job has a plan
 pub record HasPlan (r : Callbacks) (c : ℕ) (past : List Step) (plan : Plan) : Type 0 where
@@ -56,39 +52,15 @@ AgreeUpto n a b = (place : ℕ) → place ≤ n → (k : Conn) (read : Result Co
 
 change-agrees : (a b : Planner) (place : ℕ) (k : Conn) (p : Piece) → ((read : Result Command CommandFault) → b place k read ≡ a place k read) → change_of b place k p ≡ change_of a place k p
 change-agrees a b place k (piece.Cmd read) h = h read
-change-agrees a b place k (piece.Row sub want row) h = refl
-change-agrees a b place k (piece.Confirm sub) h = refl
-change-agrees a b place k (piece.Remote reconnect) h = refl
-change-agrees a b place k piece.Gone h = refl
-change-agrees a b place k piece.Restart h = refl
-
--- ---- which entries move `done`
-
-done-choice : (b : Bool) (now st : Seat) → now.done ≡ st.done → (cond b now st).done ≡ st.done
-done-choice true now st e = e
-done-choice false now st e = refl
+change-agrees a b place k _ h = refl
 
 done-finished : (b : Bool) (st : Seat) (plan : Plan) → (cond b (with_plan st plan) st).done ≡ cond b st.taken st.done
 done-finished true st plan = refl
 done-finished false st plan = refl
 
--- every other one leaves it
-pub done-same : (c : ℕ) (e : Step) (past : List Step) → ((d : ℕ) (puts : List (Option RowId)) (plan : Plan) → e ≡ Step.Finish d puts plan → ⊥) → (seat c (e ∷ past)).done ≡ (seat c past).done
-done-same c (Step.Boot last) past h = refl
-done-same c (Step.Open d token user) past h = refl
-done-same c (Step.In d text) past h = done-choice (d == c) (with_put (seat c past) (piece.Cmd (command_of text))) (seat c past) refl
-done-same c (Step.Drop d) past h = done-choice (d == c) (with_put (seat c past) piece.Gone) (seat c past) refl
-done-same c Step.Stop past h = done-choice (is_some (user_of c past)) (with_put (seat c past) piece.Restart) (seat c past) refl
-done-same c (Step.Take d) past h = done-choice (d == c) (with_job (seat c past)) (seat c past) refl
-done-same c (Step.Finish d puts plan) past h = absurd (h d puts plan refl)
-done-same c (Step.Ask turn) past h = refl
-done-same c (Step.Deliver turn note) past h =
-    elim note.failed as (λ b. (cond b (seat c past) (with_all (seat c past) (deliver_puts (user_of c past) (marks c past) (turn_mark c note past) (seat c past).conn.subs note.rows))).done ≡ (seat c past).done) [ true ↦ refl | false ↦ refl ]
-done-same c (Step.Beat now) past h = refl
-
-plainly : (c : ℕ) (a b : Planner) (e : Step) (past : List Step) → ((d : ℕ) (puts : List (Option RowId)) (plan : Plan) → e ≡ Step.Finish d puts plan → ⊥) → AgreeUpto (seat c (e ∷ past)).done a b → AgreeUpto (seat c past).done a b
+plainly : (c : ℕ) (a b : Planner) (e : Step) (past : List Step) → finishes e ≡ false → AgreeUpto (seat c (e ∷ past)).done a b → AgreeUpto (seat c past).done a b
 unfolding AgreeUpto
-plainly c a b e past h g place l = let s = done-same c e past h in g place (omega arith)
+plainly c a b e past h g place l = let s = (unfinished c e past h).done in g place (omega arith)
 
 worked-agrees : (c : ℕ) (a b : Planner) (past : List Step) → AgreeUpto (seat c past).done a b → AllWorked a c past → AllWorked b c past
 unfolding AgreeUpto
@@ -114,15 +86,7 @@ worked-agrees c a b (Step.Finish d puts plan ∷ past) g h = (here, worked-agree
     before false t place l k read =
         let at : (seat c (Step.Finish d puts plan ∷ past)).done ≡ (seat c past).done = done-finished (d == c) (seat c past) plan ∙ ap (λ z. cond z (seat c past).taken (seat c past).done) t in
         g place (omega arith) k read
-worked-agrees c a b (Step.Take d ∷ past) g h = (h.0, worked-agrees c a b past (plainly c a b (Step.Take d) past (λ x y z e. cc (e)) g) h.1)
-worked-agrees c a b (Step.Boot last ∷ past) g h = (tt, worked-agrees c a b past (plainly c a b (Step.Boot last) past (λ x y z e. cc (e)) g) h.1)
-worked-agrees c a b (Step.Open d token user ∷ past) g h = (tt, worked-agrees c a b past (plainly c a b (Step.Open d token user) past (λ x y z e. cc (e)) g) h.1)
-worked-agrees c a b (Step.In d text ∷ past) g h = (tt, worked-agrees c a b past (plainly c a b (Step.In d text) past (λ x y z e. cc (e)) g) h.1)
-worked-agrees c a b (Step.Drop d ∷ past) g h = (tt, worked-agrees c a b past (plainly c a b (Step.Drop d) past (λ x y z e. cc (e)) g) h.1)
-worked-agrees c a b (Step.Stop ∷ past) g h = (tt, worked-agrees c a b past (plainly c a b Step.Stop past (λ x y z e. cc (e)) g) h.1)
-worked-agrees c a b (Step.Ask turn ∷ past) g h = (tt, worked-agrees c a b past (plainly c a b (Step.Ask turn) past (λ x y z e. cc (e)) g) h.1)
-worked-agrees c a b (Step.Deliver turn note ∷ past) g h = (tt, worked-agrees c a b past (plainly c a b (Step.Deliver turn note) past (λ x y z e. cc (e)) g) h.1)
-worked-agrees c a b (Step.Beat now ∷ past) g h = (tt, worked-agrees c a b past (plainly c a b (Step.Beat now) past (λ x y z e. cc (e)) g) h.1)
+worked-agrees c a b (e ∷ past) g h = (h.0, worked-agrees c a b past (plainly c a b e past refl g) h.1)
 
 -- ---- every legal journal
 
@@ -172,17 +136,6 @@ stored-works c (Step.Finish d puts plan ∷ past) h = (here, worked-agrees c (st
         gives : (p : Piece) → plan.change ≡ change_of (planner h.0.0.callbacks found.user) (seat c past).taken (seat d past).conn p
             → plan.change ≡ change_of (stored_plans c (Step.Finish d puts plan ∷ past)) (seat c past).taken (seat c past).conn p
         gives (piece.Cmd read) g = rw (t, s) refl
-        gives (piece.Row sub want row) g = g
-        gives (piece.Confirm sub) g = g
-        gives (piece.Remote reconnect) g = g
-        gives piece.Gone g = g
-        gives piece.Restart g = g
+        gives _ g = g
 stored-works c (Step.Take d ∷ past) h = (taken-legal c d past h.0, stored-works c past h.1)
-stored-works c (Step.Boot last ∷ past) h = (tt, stored-works c past h.1)
-stored-works c (Step.Open d token user ∷ past) h = (tt, stored-works c past h.1)
-stored-works c (Step.In d text ∷ past) h = (tt, stored-works c past h.1)
-stored-works c (Step.Drop d ∷ past) h = (tt, stored-works c past h.1)
-stored-works c (Step.Stop ∷ past) h = (tt, stored-works c past h.1)
-stored-works c (Step.Ask turn ∷ past) h = (tt, stored-works c past h.1)
-stored-works c (Step.Deliver turn note ∷ past) h = (tt, stored-works c past h.1)
-stored-works c (Step.Beat now ∷ past) h = (tt, stored-works c past h.1)
+stored-works c (_ ∷ past) h = (tt, stored-works c past h.1)

@@ -47,20 +47,14 @@ module _ (r : Rules) (w : World) (l : LegalTable r.hash r.page w.table) where
 
   happened-kept : (e : Event) → Kept (happened r w e)
   happened-kept (event.Boot node) = (refl, l)
-  happened-kept (event.Open node conn token) = l
   happened-kept (event.In conn text) = arrived (home_of w conn.0) conn.0 text _ refl
-  happened-kept (event.Drop conn) = l
-  happened-kept (event.Stop node) = l
-  happened-kept (event.Take conn) = l
   happened-kept (event.Put conn at) = put-one conn.0 at.0 (next_cast (w.puts conn.0) (job_plan r.callbacks conn.0 (w.nodes (home_of w conn.0))))
   happened-kept (event.Finish conn) = finished-one (home_of w conn.0) conn.0 (job_plan r.callbacks conn.0 (w.nodes (home_of w conn.0)))
   happened-kept (event.Cast at channel payload) = (commit-legal None (record { channel = channel; payload = payload; at = at.0 }) w.failing, l)
   happened-kept (event.Trim now retention batch) = (trim-legal now.0 retention.0 batch w.failing, l)
-  happened-kept (event.Ask node) = l
   happened-kept (event.Read node) = (note-legal node.0 w.failing, l)
   happened-kept (event.Deliver node) = delivered node.0 (caught w node.0)
-  happened-kept (event.Beat node now) = l
-  happened-kept event.Fault = l
+  happened-kept _ = l
 
 happen-kept : (r : Rules) (w : World) (e : Event) (b : Bool) → LegalTable r.hash r.page w.table → LegalTable r.hash r.page (cond b (happened r w e) w).table
 happen-kept r w e true l = happened-kept r w l e

@@ -1,5 +1,5 @@
 -- A Trim takes only old rows, and never the newest.
-use Rattle.std.proofs.Common.{ℕ, zero, suc, ◌+◌, ◌≡◌, ◌<◌, ◌==◌, Bool, true, false, cond, not, ◌&&◌, List, [], ◌∷◌, ◌++◌, length, take, Some, None, refl, ap, sym, subst, ◌∙◌, arith, inl, inr, ◌⊎◌, ltb, length-append, ℤ}
+use Rattle.std.proofs.Common.{ℕ, zero, suc, ◌+◌, ◌≡◌, ◌<◌, ◌==◌, Bool, true, false, cond, not, ◌&&◌, List, [], ◌∷◌, ◌++◌, length, take, Some, refl, ap, sym, subst, ◌∙◌, arith, inl, inr, ◌⊎◌, ltb, length-append, ℤ}
 use Rattle.std.specs.Prelude.{Contains}
 use Rattle.std.specs.List.{filter}
 use Rattle.std.proofs.lemmas.Bool.Decides.{nat_tests}
@@ -90,10 +90,7 @@ legal-rises hash page (TableStep.Commit conn offer (Some id) ∷ past) l =
     let ih = legal-rises hash page past l.1 in
     Rises-append id_of 0 (commits past) (row_with id offer ∷ []) (last_id past) (length (commits past ++ row_with id offer ∷ [])) ih
     (omega (arith, l.0), omega (arith, l.0, length-append (commits past) (row_with id offer ∷ [])))
-legal-rises hash page (TableStep.Commit conn offer None ∷ past) l = legal-rises hash page past l.1
-legal-rises hash page (TableStep.Boot node last ∷ past) l = legal-rises hash page past l.1
-legal-rises hash page (TableStep.Trim now retention batch taken ∷ past) l = legal-rises hash page past l.1
-legal-rises hash page (TableStep.Read node turn note hashes ∷ past) l = legal-rises hash page past l.1
+legal-rises hash page (_ ∷ past) l = legal-rises hash page past l.1
 
 -- what a Trim took
 record Took (now retention batch : ℕ) (past : List TableStep) (row : Row) : Type 0 where
@@ -130,11 +127,8 @@ gone-below (TableStep.Trim now retention batch (Some taken) ∷ past) row h = go
     go true a b b' ih = ih a
     go false a true b ih = let t = took now retention batch past row b in omega (arith, t.same, t.below)
     go false a false b ih = let h' = rw (a, b) at h in absurd (cc (h'))
-gone-below (TableStep.Trim now retention batch None ∷ past) row h = gone-below past row h
 gone-below (TableStep.Commit conn offer (Some id) ∷ past) row h = let ih = gone-below past row h in omega (arith, length-append (commits past) (row_with id offer ∷ []))
-gone-below (TableStep.Commit conn offer None ∷ past) row h = gone-below past row h
-gone-below (TableStep.Boot node last ∷ past) row h = gone-below past row h
-gone-below (TableStep.Read node turn note hashes ∷ past) row h = gone-below past row h
+gone-below (_ ∷ past) row h = gone-below past row h
 
 taken-old : (hash : List ℕ → ℤ) (page : ℕ) (table : List TableStep) → LegalTable hash page table → (row : Row) → Among row (commits table) → gone table row ≡ true → TakenOld row table
 unfolding Among
@@ -148,7 +142,6 @@ taken-old hash page (TableStep.Trim now retention batch (Some taken) ∷ past) l
         let e = same-row t.it row 0 (commits past) (last_id past) (legal-rises hash page past l.1) t.committed a t.same in
         inl (subst (λ r. Contains (trimmed now retention batch past) r × (r.created_at.0 + retention < now) × (r.id.0 < last_id past)) e (contained-among t.it (trimmed now retention batch past) t.there, t.old, t.below))
     go false x false b ih = let g' = rw (x, b) at g in absurd (cc (g'))
-taken-old hash page (TableStep.Trim now retention batch None ∷ past) l row a g = inr (taken-old hash page past l.1 row a g)
 taken-old hash page (TableStep.Commit conn offer (Some id) ∷ past) l row a g = inr (go (among-either row (commits past) (row_with id offer ∷ []) a) (λ h. taken-old hash page past l.1 row h g))
   where
     go : Among row (commits past) ⊎ Among row (row_with id offer ∷ []) → (Among row (commits past) → TakenOld row past) → TakenOld row past
@@ -158,9 +151,7 @@ taken-old hash page (TableStep.Commit conn offer (Some id) ∷ past) l row a g =
         let i : row.id.0 ≡ id = ap (λ r. r.id.0) e in
         absurd (omega (arith, l.0))
     go (inr (inr h)) ih = absurd h
-taken-old hash page (TableStep.Commit conn offer None ∷ past) l row a g = inr (taken-old hash page past l.1 row a g)
-taken-old hash page (TableStep.Boot node last ∷ past) l row a g = inr (taken-old hash page past l.1 row a g)
-taken-old hash page (TableStep.Read node turn note hashes ∷ past) l row a g = inr (taken-old hash page past l.1 row a g)
+taken-old hash page (_ ∷ past) l row a g = inr (taken-old hash page past l.1 row a g)
 
 pub trims_old : (hash : List ℕ → ℤ) (page : ℕ) (table : List TableStep) → LegalTable hash page table → TrimsOld table
 trims_old hash page table l =

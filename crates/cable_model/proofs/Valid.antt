@@ -13,6 +13,10 @@ pub record Valid (n : ℕ) (k : Conn) : Type 0 where
   pub subs : Rises (λ (x : Sub). x.number) 0 k.subs n
   pub wants : AllByRecursion (λ (x : Sub). Rises (λ (y : Want). y.number) 0 x.wants k.made) k.subs
 
+-- what is valid up to a place is so up to a later one
+pub Valid-upto : (m n : ℕ) (k : Conn) → m ≤ n → Valid m k → Valid n k
+Valid-upto m n k l v = record { subs = Rises-upto (λ (x : Sub). x.number) 0 k.subs m n l v.subs; wants = v.wants }
+
 pub wanted-rises : (n : ℕ) (names : List (List ℕ)) → Rises (λ (y : Want). y.number) n (wanted n names) (n + length names)
 wanted-rises n [] = omega arith
 wanted-rises n (x ∷ xs) = (omega arith, Rises-upto (λ (y : Want). y.number) (n + 1) (wanted (n + 1) xs) (n + 1 + length xs) (n + length (x ∷ xs)) (omega arith) (wanted-rises (n + 1) xs))
@@ -126,10 +130,7 @@ changed-keeps n s w k change.Close name v l q = absurd (cc (q))
 
 pub changed-made : (p : ℕ) (k : Conn) (c : Change) → k.made ≤ (changed c p k).made
 changed-made p k change.Nothing = omega arith
-changed-made p k (change.Add identifier streams) = omega arith
-changed-made p k (change.Streams identifier stops streams) = omega arith
-changed-made p k (change.Remove identifier) = omega arith
-changed-made p k change.Close = omega arith
+changed-made p k _ = omega arith
 
 All-upto : (m n : ℕ) (xs : List Sub) → m ≤ n → AllByRecursion (λ (x : Sub). Rises (λ (y : Want). y.number) 0 x.wants m) xs → AllByRecursion (λ (x : Sub). Rises (λ (y : Want). y.number) 0 x.wants n) xs
 All-upto m n xs l h = All-implied (λ (x : Sub). Rises (λ (y : Want). y.number) 0 x.wants m) (λ (x : Sub). Rises (λ (y : Want). y.number) 0 x.wants n) xs (λ x r. Rises-upto (λ (y : Want). y.number) 0 x.wants m n l r) h

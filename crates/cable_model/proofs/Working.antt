@@ -1,20 +1,19 @@
 -- The pieces that were taken and finished: the connection is the fold of all pieces up to the last one finished, passed over or not.
-use Rattle.std.proofs.Common.{ℕ, zero, suc, ◌+◌, ◌-◌, ◌≡◌, ◌==◌, Bool, true, false, cond, List, [], ◌∷◌, ◌++◌, length, drop, Some, refl, ap, sym, subst, ◌∙◌, arith, inl, inr, ◌⊎◌, append_assoc, is_some, slice_get, length-append}
+use Rattle.std.proofs.Common.{ℕ, zero, suc, ◌+◌, ◌-◌, ◌≡◌, ◌==◌, Bool, true, false, cond, List, [], ◌∷◌, ◌++◌, length, drop, Some, refl, ap, sym, subst, ◌∙◌, arith, inl, inr, ◌⊎◌, append_assoc, slice_get, length-append}
 use Rattle.std.proofs.lemmas.List.{append-nil}
 use Rattle.std.specs.List.{filter, AllByRecursion}
 use Rattle.std.proofs.lemmas.Bool.Decides.{nat_tests}
 use Rattle.cable_base.specs.declared.rows.Row.{Row}
-use Rattle.cable_json.specs.Commands.{command_of}
 use Rattle.cable_model.specs.declared.pieces.Piece.{Piece}
 use Rattle.cable_model.specs.declared.pieces.Piece.TheVariants as piece
 use Rattle.cable_model.specs.declared.plans.Plan.{Plan}
-use Rattle.cable_model.specs.Steps.{Step, Boot, Open, In, Drop, Stop, Take, Finish, Ask, Deliver, Beat}
+use Rattle.cable_model.specs.Steps.{Step, Take, Finish}
 use Rattle.cable_model.specs.Connection.{Conn, Planner, fresh, changed, change_of, worked, fold_from, fold, still, stands_want}
-use Rattle.cable_model.specs.Wants.{marks, turn_mark, user_of}
-use Rattle.cable_model.specs.Pieces.{closing, put, put_all, numbered, Seat, seat, waiting, first_place, with_put, with_all, with_job, with_plan, unseated, deliver_puts}
+use Rattle.cable_model.specs.Pieces.{closing, put, put_all, numbered, Seat, seat, waiting, first_place, with_all, with_job, with_plan, unseated}
 use Rattle.cable_model.specs.Possible.{has_job, is_empty}
 use Rattle.cable_model.specs.Window.{row_of, live_from, live, row_worked, job, finished}
 use Rattle.cable_model.specs.Promise.{AllWorked}
+use Rattle.cable_model.proofs.Entries.{only-puts}
 use Rattle.cable_model.proofs.Folds.{fold_from-append, live_from-append}
 use Rattle.cable_model.proofs.Puts.{Ended, put-Ended}
 
@@ -23,12 +22,9 @@ abbrev pub Passed : Conn → List Piece → Type 0
 Passed k qs = AllByRecursion (λ q. still k q ≡ false) qs
 
 passed-worked : (pl : Planner) (n : ℕ) (k : Conn) (q : Piece) → still k q ≡ false → worked pl n k q ≡ k
-passed-worked pl n k (piece.Cmd read) h = absurd (cc (h))
 passed-worked pl n k (piece.Row sub want row) h = refl
 passed-worked pl n k (piece.Confirm sub) h = refl
-passed-worked pl n k (piece.Remote reconnect) h = absurd (cc (h))
-passed-worked pl n k piece.Gone h = absurd (cc (h))
-passed-worked pl n k piece.Restart h = absurd (cc (h))
+passed-worked pl n k _ h = absurd (cc (h))
 
 no-rows : (stands : Bool) (b : Bool) → cond {A = List Row} stands [] [] ≡ cond b [] []
 no-rows true true = refl
@@ -48,11 +44,7 @@ row-still s w k (piece.Row sub want row) b h = go (sub.0 == s) refl (want.0 == w
         rw stands refl
     go true x false y = rw (x, y) (no-rows (stands_want s w k) b)
     go false x y y' = rw x (no-rows (stands_want s w k) b)
-row-still s w k (piece.Cmd read) b h = no-rows (stands_want s w k) b
-row-still s w k (piece.Confirm sub) b h = no-rows (stands_want s w k) b
-row-still s w k (piece.Remote reconnect) b h = no-rows (stands_want s w k) b
-row-still s w k piece.Gone b h = no-rows (stands_want s w k) b
-row-still s w k piece.Restart b h = no-rows (stands_want s w k) b
+row-still s w k _ b h = no-rows (stands_want s w k) b
 
 pub passed-fold : (pl : Planner) (n : ℕ) (k : Conn) (qs : List Piece) → Passed k qs → fold_from pl n k qs ≡ k
 passed-fold pl n k [] h = refl
@@ -242,26 +234,6 @@ WorkingAt pl c past = Working pl (seat c past) (λ sub want. finished c sub want
 
 pub working : (pl : Planner) (c : ℕ) (past : List Step) → AllWorked pl c past → WorkingAt pl c past
 working pl c [] h = unseated-works pl
-working pl c (Boot last ∷ past) h = working pl c past h.1
-working pl c (Open d token user ∷ past) h = working pl c past h.1
-working pl c (In d text ∷ past) h =
-    let v = working pl c past h.1 in
-    elim (d == c) as (λ b. Working pl (cond b (with_put (seat c past) (piece.Cmd (command_of text))) (seat c past)) (λ sub want. finished c sub want past)) [
-      | true ↦ put-works pl (seat c past) (λ sub want. finished c sub want past) (piece.Cmd (command_of text) ∷ []) v
-      | false ↦ v
-    ]
-working pl c (Drop d ∷ past) h =
-    let v = working pl c past h.1 in
-    elim (d == c) as (λ b. Working pl (cond b (with_put (seat c past) piece.Gone) (seat c past)) (λ sub want. finished c sub want past)) [
-      | true ↦ put-works pl (seat c past) (λ sub want. finished c sub want past) (piece.Gone ∷ []) v
-      | false ↦ v
-    ]
-working pl c (Stop ∷ past) h =
-    let v = working pl c past h.1 in
-    elim (is_some (user_of c past)) as (λ b. Working pl (cond b (with_put (seat c past) piece.Restart) (seat c past)) (λ sub want. finished c sub want past)) [
-      | true ↦ put-works pl (seat c past) (λ sub want. finished c sub want past) (piece.Restart ∷ []) v
-      | false ↦ v
-    ]
 working pl c (Take d ∷ past) h = go (d == c) refl (working pl c past h.1)
   where
     go : (b : Bool) → (d == c) ≡ b → WorkingAt pl c past → WorkingAt pl c (Take d ∷ past)
@@ -280,12 +252,6 @@ working pl c (Finish d puts plan ∷ past) h = go (d == c) refl (working pl c pa
         (sym b)
         (finish-works pl (seat c past) (λ sub want. finished c sub want past) plan w.0 w.1 v)
     go false b v = rw b v
-working pl c (Ask turn ∷ past) h = working pl c past h.1
-working pl c (Deliver turn note ∷ past) h =
-    let v = working pl c past h.1 in
-    let puts = deliver_puts (user_of c past) (marks c past) (turn_mark c note past) (seat c past).conn.subs note.rows in
-    elim note.failed as (λ b. Working pl (cond b (seat c past) (with_all (seat c past) puts)) (λ sub want. finished c sub want past)) [
-      | true ↦ v
-      | false ↦ put-works pl (seat c past) (λ sub want. finished c sub want past) puts v
-    ]
-working pl c (Beat now ∷ past) h = working pl c past h.1
+working pl c (e ∷ past) h =
+    let put = only-puts c e past refl in
+    subst (λ s. Working pl s (λ sub want. finished c sub want past)) (sym put.1) (put-works pl (seat c past) (λ sub want. finished c sub want past) put.0 (working pl c past h.1))

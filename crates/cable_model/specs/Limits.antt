@@ -1,5 +1,5 @@
 -- The limits of a session.
-use Rattle.std.specs.Prelude.{ℕ, ◌-◌, ◌^◌, ◌≤◌, List, length}
+use Rattle.std.specs.Prelude.{ℕ, ◌^◌, ◌≤◌, List, length}
 use Rattle.cable_base.specs.Squeeze.{IsSqueezedJson}
 
 -- bytes of a command's text
@@ -38,9 +38,9 @@ most_line = 1200000
 abbrev pub most_script : ℕ
 most_script = 2 ^ 40
 
--- rows that a read gives at most: as many as there are, until reads are paged
+-- rows that a read fetches at most
 abbrev pub page_rows : ℕ
-page_rows = 2 ^ 64 - 1
+page_rows = 1000
 
 -- a name and a payload that can be committed as a row: within the limits, and the payload is squeezed JSON
 pub record CanBeRow (channel payload : List ℕ) : Type 0 where

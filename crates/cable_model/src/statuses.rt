@@ -130,7 +130,7 @@ impl Status {
             Status::BadScript { line, reason } => bad_script_text(alloc, *line, *reason),
             Status::BadBook { fault } => bad_book_text(alloc, fault),
             Status::Unended => Text::new(alloc, "unended"),
-            Status::TooLong { line } => Ok(Text::of(format!(in alloc; "too-long line {}", line)?)),
+            Status::TooLong { line } => Text::of(format!(in alloc; "too-long line {}", line)?),
             Status::ReadFault => Text::new(alloc, "read-fault"),
             Status::WriteFault => Text::new(alloc, "write-fault"),
             Status::OutOfMemory => Text::new(alloc, "out-of-memory"),
@@ -193,7 +193,7 @@ fn bad_script_text(alloc: Global, line: u64, reason: BreakReason) -> Result<Text
 {
     let reason = reason.text();
     let text = format!(in alloc; "bad-script line {} {}", line, reason)?;
-    Ok(Text::of(text))
+    Text::of(text)
 }
 
 /// What is printed of a book that is refused.
@@ -204,7 +204,7 @@ fn bad_book_text(alloc: Global, fault: &BookFault) -> Result<Text, OutOfMemory>
         BookFault::BadJson => Text::new(alloc, "bad-book bad-json"),
         BookFault::BadShape { path } => {
             let path = path.as_str();
-            Ok(Text::of(format!(in alloc; "bad-book bad-shape {}", path)?))
+            Text::of(format!(in alloc; "bad-book bad-shape {}", path)?)
         }
         BookFault::ReservedStream { .. } => Text::new(alloc, "bad-book reserved-stream"),
         BookFault::RepeatedName { .. } => Text::new(alloc, "bad-book repeated-name"),

@@ -14,7 +14,7 @@ use std::alloc::Global;
 pub fn print_event(alloc: Global, event: &Event) -> Result<Text, OutOfMemory>
     ensures { IfOk result (λ t. t ≡ event_line event.now) }
 {
-    Ok(Text::of(match event {
+    let line = match event {
         Event::Boot { node } => format!(in alloc; "boot {}", node.0)?,
         Event::Open { node, conn, token } => {
             let token = token.as_str();
@@ -48,7 +48,8 @@ pub fn print_event(alloc: Global, event: &Event) -> Result<Text, OutOfMemory>
         Event::Deliver { node } => format!(in alloc; "deliver {}", node.0)?,
         Event::Beat { node, now } => format!(in alloc; "beat {} {}", node.0, now.0)?,
         Event::Fault => format!(in alloc; "fault")?,
-    }))
+    };
+    Ok(Text::of(line)?)
 }
 
 /// The text of a note.
@@ -81,7 +82,7 @@ fn note_text(note: Note) -> &'static str
 pub fn print_line(alloc: Global, line: &Line) -> Result<Text, OutOfMemory>
     ensures { IfOk result (λ t. t ≡ line_text line.now) }
 {
-    Ok(Text::of(match line {
+    let line = match line {
         Line::Text { conn, text } => {
             let text = text.as_str();
             format!(in alloc; "{} {}", conn.0, text)?
@@ -93,5 +94,6 @@ pub fn print_line(alloc: Global, line: &Line) -> Result<Text, OutOfMemory>
         Line::Note { conn: None, note } => format!(in alloc; "- ! {}", note_text(*note))?,
         Line::Row { id } => format!(in alloc; "- row {}", id.0)?,
         Line::Trimmed { count } => format!(in alloc; "- trimmed {}", count)?,
-    }))
+    };
+    Ok(Text::of(line)?)
 }

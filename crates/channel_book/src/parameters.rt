@@ -24,10 +24,10 @@ fn fillable_text(alloc: Global, value: &Value) -> Result<Option<Text>, OutOfMemo
         return Ok(Some(Text::new(alloc, text)?));
     }
     if let Some(number) = value.as_u64() {
-        return Ok(Some(Text::of(format!(in alloc; "{number}")?)));
+        return Ok(Some(Text::of(format!(in alloc; "{number}")?)?));
     }
     if let Some(number) = value.as_i64() {
-        return Ok(Some(Text::of(format!(in alloc; "{number}")?)));
+        return Ok(Some(Text::of(format!(in alloc; "{number}")?)?));
     }
     match value.as_bool() {
         Some(true) => Ok(Some(Text::new(alloc, "true")?)),
@@ -80,6 +80,6 @@ pub fn value_for(
     }
     match parameter(alloc, identifier, name)? {
         Some(value) => Ok(value),
-        None => Ok(Text::of(String::new(alloc))),
+        None => Text::new(alloc, ""),
     }
 }

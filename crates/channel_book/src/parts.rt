@@ -1,8 +1,7 @@
-ghost use Rattle.std.specs.Prelude.{◌≡◌, ◌∷◌, ◌++◌, [], List, ℕ, Option, Result, decimal, option_map, IfOk};
+ghost use Rattle.std.specs.Prelude.{◌≡◌, ◌∷◌, ◌++◌, [], List, ℕ, Option, Result, Err, decimal, option_map, IfOk};
 ghost use Rattle.serde_json.specs.Data.{Data};
 ghost use Rattle.serde_json.specs.View.{view, items_view};
 ghost use Rattle.channel_book.specs.Paths.{ReadsPart, here, within, each, list_of};
-ghost use Rattle.channel_book.specs.declared.faults.ShapeFault.TheVariants as fault;
 
 use crate::faults::ShapeFault;
 use cable_base::{Listed, OutOfMemory, Text};
@@ -18,13 +17,12 @@ pub trait Part<S>: Sized {
         ensures { ReadsPart result (part_of scope.now (view value.now)) };
 }
 
-/// The format is broken at this very place.
-pub fn broken(alloc: Global) -> ShapeFault
-    ensures { result ≡ fault.Broken [] }
+/// The fault that the format is broken at this very place, unless memory is wanted to say so.
+pub fn broken<T>(alloc: Global) -> Result<T, ShapeFault>
+    ensures { ReadsPart result (Err []) }
 {
-    ShapeFault::Broken {
-        path: Text::of(String::new(alloc)),
-    }
+    let path = Text::new(alloc, "")?;
+    Err(ShapeFault::Broken { path })
 }
 
 /// What is there, or else the fault that the format is broken here.
@@ -33,7 +31,7 @@ pub fn here<T: Drop>(alloc: Global, part: Option<T>) -> Result<T, ShapeFault>
 {
     match part {
         Some(part) => Ok(part),
-        None => Err(broken(alloc)),
+        None => broken(alloc),
     }
 }
 
@@ -41,14 +39,14 @@ fn member_path(alloc: Global, name: &str, path: &Text) -> Result<Text, OutOfMemo
     ensures { IfOk result (λ longer. longer ≡ 47 ∷ name.now ++ path.now) }
 {
     let path = path.as_str();
-    Ok(Text::of(format!(in alloc; "/{name}{path}")?))
+    Text::of(format!(in alloc; "/{name}{path}")?)
 }
 
 fn item_path(alloc: Global, place: usize, path: &Text) -> Result<Text, OutOfMemory>
     ensures { IfOk result (λ longer. longer ≡ 47 ∷ decimal place ++ path.now) }
 {
     let path = path.as_str();
-    Ok(Text::of(format!(in alloc; "/{place}{path}")?))
+    Text::of(format!(in alloc; "/{place}{path}")?)
 }
 
 /// A part that stands in this member, whose faults get the member's step of the path.

@@ -37,7 +37,7 @@ fn user_in(alloc: Global, token: &str, value: &Value) -> Result<User, ShapeFault
             text: Text::new(alloc, text)?,
         })
     } else {
-        Err(broken(alloc))
+        broken(alloc)
     }
 }
 
@@ -124,7 +124,7 @@ fn name_in(alloc: Global, name: Option<&Value>) -> Result<Text, ShapeFault>
     if !name.is_empty() {
         Ok(Text::new(alloc, name)?)
     } else {
-        Err(broken(alloc))
+        broken(alloc)
     }
 }
 
@@ -159,7 +159,7 @@ fn required_in(alloc: Global, value: &Value) -> Result<Text, ShapeFault>
     if is_requirable(name) {
         Ok(Text::new(alloc, name)?)
     } else {
-        Err(broken(alloc))
+        broken(alloc)
     }
 }
 
@@ -180,7 +180,7 @@ fn distinct_names(alloc: Global, names: Listed<Text>) -> Result<Indexed<Text>, S
 {
     let names = Indexed::of(alloc, names)?;
     if names.first_repeat().is_some() {
-        Err(broken(alloc))
+        broken(alloc)
     } else {
         Ok(names)
     }

@@ -149,5 +149,5 @@ pub fn fill(
         text.push_str(value.as_str())?;
         text.push_str(slot.rest.as_str())?;
     }
-    Ok(Name::of(Text::of(text)))
+    Ok(Name::of(Text::of(text)?))
 }

@@ -61,6 +61,13 @@ impl Conn {
         self.user.as_str()
     }
 
+    /// Its user, as a text whose copies share its characters. It takes no memory.
+    pub fn user_text(&self) -> &Text
+        ensures { result.now ≡ self.now.user }
+    {
+        &self.user
+    }
+
     /// Whether a change that closes it was applied. It takes no memory.
     pub fn is_over(&self) -> bool
         ensures { result ≡ self.now.over }

@@ -4,6 +4,7 @@
 mod casting;
 mod changing;
 mod connections;
+mod finding;
 mod keeping;
 mod laws;
 mod limits;
@@ -15,6 +16,7 @@ mod tasking;
 mod walking;
 
 pub use connections::Conn;
+pub use finding::{sub_named, sub_numbered};
 pub use laws::{changes_are_steps, places_are_marks, plans_are_the_rules, plans_can_be_applied};
 pub use planning::plan;
 pub use subscriptions::Sub;

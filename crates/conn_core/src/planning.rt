@@ -116,7 +116,7 @@ fn rejecting<C: Callbacks>(
 /// The subscription stands, and wants these streams.
 fn accepting(
     alloc: Global,
-    identifier: &str,
+    identifier: &Text,
     answer: Answer,
     wanted: Listed<Name>,
 ) -> Result<Plan, OutOfMemory>
@@ -131,8 +131,8 @@ fn accepting(
         casts,
         ..
     } = answer;
-    let mut texts = says(alloc, identifier, sayings.as_slice())?;
-    confirming(alloc, &mut texts, identifier, streams.as_slice())?;
+    let mut texts = says(alloc, identifier.as_str(), sayings.as_slice())?;
+    confirming(alloc, &mut texts, identifier.as_str(), streams.as_slice())?;
     let mut walked = Casts::behind(alloc, Listed::empty(alloc));
     walked.add(casts)?;
     let (casts, notes) = walked.into_parts()?;
@@ -141,7 +141,7 @@ fn accepting(
         notes,
         casts,
         change: Change::Add {
-            identifier: Text::new(alloc, identifier)?,
+            identifier: identifier.copy(alloc)?,
             streams: wanted,
         },
     })
@@ -149,7 +149,7 @@ fn accepting(
 
 fn subscribing<C: Callbacks>(
     alloc: Global,
-    identifier: &str,
+    identifier: &Text,
     user: &str,
     callbacks: &C,
 ) -> Result<Plan, OutOfMemory>
@@ -157,19 +157,19 @@ fn subscribing<C: Callbacks>(
     ensures casts { IfOk result (λ p. AreCommittable p.casts) }
     ensures answered { IfOk result (λ _. IsAnswer (C.subscribed_of callbacks.now user.now identifier.now) × (is_rejection (C.subscribed_of callbacks.now user.now identifier.now) ≡ true → IsAnswer (C.unsubscribed_of callbacks.now user.now identifier.now))) }
 {
-    let answer = match callbacks.subscribed(alloc, user, identifier) {
+    let answer = match callbacks.subscribed(alloc, user, identifier.as_str()) {
         Ok(answer) => answer,
         Err(fault) => return noting(alloc, fault_note(fault)?),
     };
     let mut why = Listed::empty(alloc);
     if answer.rejected {
-        return rejecting(alloc, why, identifier, answer, user, callbacks);
+        return rejecting(alloc, why, identifier.as_str(), answer, user, callbacks);
     }
     let walk = walk_streams(alloc, answer.streams.as_slice(), &[], &[])?;
     match walk.notes.as_slice().first() {
         Some(note) => {
             why.push(*note)?;
-            rejecting(alloc, why, identifier, answer, user, callbacks)
+            rejecting(alloc, why, identifier.as_str(), answer, user, callbacks)
         }
         None => accepting(alloc, identifier, answer, walk.wanted),
     }
@@ -177,7 +177,7 @@ fn subscribing<C: Callbacks>(
 
 fn unsubscribing<C: Callbacks>(
     alloc: Global,
-    identifier: &str,
+    identifier: &Text,
     user: &str,
     callbacks: &C,
 ) -> Result<Plan, OutOfMemory>
@@ -186,14 +186,14 @@ fn unsubscribing<C: Callbacks>(
     ensures answered { IfOk result (λ _. IsAnswer (C.unsubscribed_of callbacks.now user.now identifier.now)) }
 {
     let mut walked = Casts::behind(alloc, Listed::empty(alloc));
-    walked.leave(alloc, identifier, user, callbacks)?;
+    walked.leave(alloc, identifier.as_str(), user, callbacks)?;
     let (casts, notes) = walked.into_parts()?;
     Ok(Plan {
         texts: Listed::empty(alloc),
         notes,
         casts,
         change: Change::Remove {
-            identifier: Text::new(alloc, identifier)?,
+            identifier: identifier.copy(alloc)?,
         },
     })
 }
@@ -201,7 +201,7 @@ fn unsubscribing<C: Callbacks>(
 /// What `perform` answered, of a subscription with these streams.
 fn performed(
     alloc: Global,
-    identifier: &str,
+    identifier: &Text,
     streams: &[Name],
     answer: Answer,
 ) -> Result<Plan, OutOfMemory>
@@ -221,11 +221,11 @@ fn performed(
     walked.add(casts)?;
     let (casts, notes) = walked.into_parts()?;
     Ok(Plan {
-        texts: says(alloc, identifier, sayings.as_slice())?,
+        texts: says(alloc, identifier.as_str(), sayings.as_slice())?,
         notes,
         casts,
         change: Change::Streams {
-            identifier: Text::new(alloc, identifier)?,
+            identifier: identifier.copy(alloc)?,
             stops,
             streams: walk.wanted,
         },
@@ -234,7 +234,7 @@ fn performed(
 
 fn performing<C: Callbacks>(
     alloc: Global,
-    identifier: &str,
+    identifier: &Text,
     payload: &str,
     streams: &[Name],
     user: &str,
@@ -244,7 +244,7 @@ fn performing<C: Callbacks>(
     ensures casts { IfOk result (λ p. AreCommittable p.casts) }
     ensures answered { IfOk result (λ _. IsAnswer (C.performed_of callbacks.now user.now identifier.now payload.now)) }
 {
-    match callbacks.perform(alloc, user, identifier, payload) {
+    match callbacks.perform(alloc, user, identifier.as_str(), payload) {
         Ok(answer) => performed(alloc, identifier, streams, answer),
         Err(fault) => noting(alloc, fault_note(fault)?),
     }
@@ -306,19 +306,15 @@ pub fn plan<C: Callbacks>(
     match task {
         Task::Nothing => Ok(nothing(alloc)),
         Task::Note(note) => noting(alloc, *note),
-        Task::Subscribe { identifier } => {
-            subscribing(alloc, identifier.as_str(), user, callbacks)
-        }
-        Task::Unsubscribe { identifier } => {
-            unsubscribing(alloc, identifier.as_str(), user, callbacks)
-        }
+        Task::Subscribe { identifier } => subscribing(alloc, identifier, user, callbacks),
+        Task::Unsubscribe { identifier } => unsubscribing(alloc, identifier, user, callbacks),
         Task::Perform {
             identifier,
             payload,
             streams,
         } => performing(
             alloc,
-            identifier.as_str(),
+            identifier,
             payload.as_str(),
             streams.as_slice(),
             user,

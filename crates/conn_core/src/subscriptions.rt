@@ -48,6 +48,13 @@ impl Sub {
         self.identifier.as_str()
     }
 
+    /// Its identifier, as a text whose copies share its characters. It takes no memory.
+    pub fn identifier_text(&self) -> &Text
+        ensures { result.now ≡ self.now.identifier }
+    {
+        &self.identifier
+    }
+
     /// Its streams. It takes no memory.
     pub fn streams(&self) -> &StreamSet
         ensures { result.now ≡ self.now.streams }

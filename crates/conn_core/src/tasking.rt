@@ -1,11 +1,12 @@
-ghost use Rattle.std.specs.Prelude.{◌≡◌, map, find, option_map, IfOk, Ok};
+ghost use Rattle.std.specs.Prelude.{◌≡◌, map, IfOk, Ok};
 ghost use Rattle.cable_json.specs.declared.commands.Command.TheVariants as command;
 ghost use Rattle.cable_model.specs.declared.pieces.Piece.TheVariants as piece;
 ghost use Rattle.stream_set.specs.declared.entries.StreamEntry.{StreamEntry};
 ghost use Rattle.cable_model.specs.Plans.{sub_numbered, row_task, confirm_task, close_task, fault_task, task_of};
-ghost use Rattle.conn_core.specs.Subscriptions.{SubParts, shown, has_identifier, has_number};
+ghost use Rattle.conn_core.specs.Subscriptions.{SubParts, shown};
 ghost use Rattle.conn_core.specs.Bare.{bare};
 
+use crate::finding::{sub_named, sub_numbered};
 use crate::limits::MOST_SUBSCRIPTIONS;
 use crate::subscriptions::Sub;
 use cable_base::{Listed, Name, OutOfMemory, SubNo, Text};
@@ -13,18 +14,6 @@ use cable_json::{Command, CommandFault};
 use cable_model::{Closing, Note, Piece, Task};
 use std::alloc::Global;
 use stream_set::StreamEntry;
-
-fn find_identifier<'a>(subs: &'a [Sub], identifier: &str) -> Option<&'a Sub>
-    ensures { option_map (λ s. s.now) result ≡ find (λ s. has_identifier identifier.now (shown s)) subs.now }
-{
-    subs.iter().find(|sub| sub.identifier() == identifier)
-}
-
-fn find_number(subs: &[Sub], number: SubNo) -> Option<&Sub>
-    ensures { option_map (λ s. s.now) result ≡ find (λ s. has_number number (shown s)) subs.now }
-{
-    subs.iter().find(|sub| sub.number() == number)
-}
 
 fn names_of(alloc: Global, entries: &[StreamEntry]) -> Result<Listed<Name>, OutOfMemory>
     ensures { IfOk result (λ ns. ns ≡ map (λ (e : StreamEntry). e.name) entries.now) }
@@ -41,7 +30,7 @@ fn identifiers_of(alloc: Global, subs: &[Sub]) -> Result<Listed<Text>, OutOfMemo
 {
     let mut identifiers = Listed::empty(alloc);
     for sub in subs {
-        identifiers.push(Text::new(alloc, sub.identifier())?)?;
+        identifiers.push(sub.identifier_text().copy(alloc)?)?;
     }
     Ok(identifiers)
 }
@@ -51,7 +40,7 @@ fn identifiers_of(alloc: Global, subs: &[Sub]) -> Result<Listed<Text>, OutOfMemo
 fn subscribe_task(alloc: Global, subs: &[Sub], identifier: &Text) -> Result<Task, OutOfMemory>
     ensures { IfOk result (λ t. t ≡ task_of (bare (map shown subs.now)) (piece.Cmd (Ok (command.Subscribe identifier.now)))) }
 {
-    if find_identifier(subs, identifier.as_str()).is_some() {
+    if sub_named(subs, identifier.as_str()).is_some() {
         return Ok(Task::Nothing);
     }
     if subs.len() >= MOST_SUBSCRIPTIONS {
@@ -66,7 +55,7 @@ fn subscribe_task(alloc: Global, subs: &[Sub], identifier: &Text) -> Result<Task
 fn unsubscribe_task(alloc: Global, subs: &[Sub], identifier: &Text) -> Result<Task, OutOfMemory>
     ensures { IfOk result (λ t. t ≡ task_of (bare (map shown subs.now)) (piece.Cmd (Ok (command.Unsubscribe identifier.now)))) }
 {
-    if find_identifier(subs, identifier.as_str()).is_none() {
+    if sub_named(subs, identifier.as_str()).is_none() {
         return Ok(Task::Note(Note::UnknownSubscription));
     }
     Ok(Task::Unsubscribe {
@@ -83,7 +72,7 @@ fn perform_task(
 ) -> Result<Task, OutOfMemory>
     ensures { IfOk result (λ t. t ≡ task_of (bare (map shown subs.now)) (piece.Cmd (Ok (command.Message identifier.now payload.now)))) }
 {
-    let Some(sub) = find_identifier(subs, identifier.as_str()) else {
+    let Some(sub) = sub_named(subs, identifier.as_str()) else {
         return Ok(Task::Note(Note::UnknownSubscription));
     };
     Ok(Task::Perform {
@@ -97,11 +86,11 @@ fn perform_task(
 fn row_task(alloc: Global, subs: &[Sub], number: SubNo, payload: &Text) -> Result<Task, OutOfMemory>
     ensures { IfOk result (λ t. t ≡ row_task payload.now (sub_numbered number.0 (bare (map shown subs.now)))) }
 {
-    let Some(sub) = find_number(subs, number) else {
+    let Some(sub) = sub_numbered(subs, number) else {
         return Ok(Task::Nothing);
     };
     Ok(Task::Row {
-        identifier: Text::new(alloc, sub.identifier())?,
+        identifier: sub.identifier_text().copy(alloc)?,
         payload: payload.copy(alloc)?,
     })
 }
@@ -110,11 +99,11 @@ fn row_task(alloc: Global, subs: &[Sub], number: SubNo, payload: &Text) -> Resul
 fn confirm_task(alloc: Global, subs: &[Sub], number: SubNo) -> Result<Task, OutOfMemory>
     ensures { IfOk result (λ t. t ≡ confirm_task (sub_numbered number.0 (bare (map shown subs.now)))) }
 {
-    let Some(sub) = find_number(subs, number) else {
+    let Some(sub) = sub_numbered(subs, number) else {
         return Ok(Task::Nothing);
     };
     Ok(Task::Confirm {
-        identifier: Text::new(alloc, sub.identifier())?,
+        identifier: sub.identifier_text().copy(alloc)?,
     })
 }
 

@@ -6,5 +6,6 @@ mod Showing
 pub mod Sitting
 pub mod Answering
 pub mod Turning
-mod Comparisons
 pub mod Placing
+mod Working
+mod Same

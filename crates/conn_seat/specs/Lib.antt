@@ -3,3 +3,4 @@ pub mod Seats
 pub mod Seated
 pub mod Turns
 pub mod Tasks
+pub mod Inside

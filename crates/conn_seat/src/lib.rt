@@ -2,8 +2,9 @@
 //! them.
 #![tactic(auto)]
 
-mod comparing;
+mod jobs;
 mod laws;
+mod naming;
 mod seats;
 mod striking;
 

@@ -1,19 +1,19 @@
-ghost use Rattle.std.specs.Prelude.{◌≡◌, ◌↔◌, ◌≤◌, ◌<◌, ◌+◌, ◌^◌, ◌-◌, true, not, map, is_some, length, filter, Some, IsOk, IsSome, IfOk, IfErr, OnOk, OnErr, option_map, option_copied};
-ghost use Rattle.cable_model.specs.Pieces.{Placed, is_closing};
-ghost use Rattle.cable_model.specs.Plans.{task_of};
+ghost use Rattle.std.specs.Prelude.{◌≡◌, ◌↔◌, ◌≤◌, ◌<◌, ◌+◌, ◌^◌, ◌-◌, true, not, map, is_some, length, filter, Some, None, IsOk, IsSome, IfOk, IfErr, OnOk, OnErr, option_map, option_copied};
+ghost use Rattle.cable_base.specs.Names.{own_name};
+ghost use Rattle.cable_model.specs.Pieces.{is_closing};
 ghost use Rattle.cable_model.specs.Possible.{is_command, is_empty};
 ghost use Rattle.cable_model.specs.Wants.{makes};
-ghost use Rattle.conn_core.specs.Bare.{bare};
 ghost use Rattle.conn_core.specs.Subscriptions.{shown, AreApart, WantsApart, placed_in, waits_in};
 ghost use Rattle.conn_seat.specs.Tasks.{next_task_of, task_out_of};
 ghost use Rattle.conn_seat.specs.Seats.{Becomes, CanFinish, vacant, is_receiving_now, may_take_now, with_piece, with_taken, with_change};
 
-use crate::comparing::is_piece_task;
+use crate::jobs::Job;
+use crate::naming::own_name;
 use crate::striking::strike;
-use cable_base::{OutOfMemory, RowId, SubNo, WantNo};
+use cable_base::{Name, OutOfMemory, RowId, SubNo, Text, WantNo};
 use cable_model::{Change, Piece, Plan, Task};
 use conn_core::{Conn, Sub};
-use run_queue::{Inbox, Taken, Unpushed};
+use run_queue::{Inbox, Unpushed};
 use std::alloc::Global;
 use std::marker::Model;
 
@@ -21,17 +21,22 @@ use std::marker::Model;
 /// a time, in their order.
 #[derive(Debug, Drop)]
 pub struct Seat {
+    alloc: Global,
+    own: Name,
     conn: Conn,
     inbox: Inbox,
-    job: Option<Taken>,
+    job: Option<Job>,
     closing: bool,
     made: u64,
 }
 
 impl Model for Seat {
-    ghost use Rattle.std.specs.Prelude.{◌<◌, ◌-◌, ◌^◌, option_map};
+    ghost use Rattle.std.specs.Prelude.{◌≡◌, ◌<◌, ◌-◌, ◌^◌, option_map};
+    ghost use Rattle.cable_base.specs.Names.{own_name};
     ghost use Rattle.run_queue.specs.Inside.{placed};
+    ghost use Rattle.conn_seat.specs.declared.jobs.Job.{Job};
     ghost use Rattle.conn_seat.specs.Seats.{Seated};
+    ghost use Rattle.conn_seat.specs.Inside.{HasTask};
 
     ghost Value = { Seated };
 
@@ -42,14 +47,18 @@ impl Model for Seat {
       waiting = a.inbox.waiting;
       last = a.inbox.last;
       taken = a.inbox.taken;
-      job = option_map placed a.job;
+      job = option_map (λ (j : Job). placed j.taken) a.job;
       closing = a.closing;
       made = a.made;
       reserved = a.conn.reserved;
       spare = a.inbox.spare;
     } };
 
-    ghost invariant = { λ a. a.made < 2 ^ 64 - 1 };
+    ghost invariant = { λ a. record {
+      made : a.made < 2 ^ 64 - 1;
+      own : a.own ≡ own_name a.conn.user;
+      task : HasTask a.conn.subs a.job;
+    } };
 }
 
 fn is_closing(piece: &Piece) -> bool
@@ -64,6 +73,8 @@ impl Seat {
         ensures { IfOk result (λ s. Becomes (vacant user.now) s) }
     {
         Ok(Seat {
+            alloc,
+            own: own_name(alloc, user)?,
             conn: Conn::begin(alloc, user)?,
             inbox: Inbox::empty(alloc),
             job: None,
@@ -77,6 +88,20 @@ impl Seat {
         ensures { result.now ≡ self.now.user }
     {
         self.conn.user()
+    }
+
+    /// Its user, as a text whose copies share its characters. It takes no memory.
+    pub fn user_text(&self) -> &Text
+        ensures { result.now ≡ self.now.user }
+    {
+        self.conn.user_text()
+    }
+
+    /// The name of its own stream, which disconnects its user. It takes no memory.
+    pub fn own(&self) -> &Name
+        ensures { result.now ≡ own_name self.now.user }
+    {
+        &self.own
     }
 
     /// Its subscriptions, in the order in which they were made. It takes no memory.
@@ -150,7 +175,7 @@ impl Seat {
         ensures { option_copied result ≡ option_map (λ p. p.piece) self.now.job }
     {
         match &self.job {
-            Some(taken) => Some(&taken.piece),
+            Some(job) => Some(&job.taken.piece),
             None => None,
         }
     }
@@ -160,7 +185,7 @@ impl Seat {
         ensures { result ≡ option_map (λ p. p.place) self.now.job }
     {
         match &self.job {
-            Some(taken) => Some(taken.place),
+            Some(job) => Some(job.taken.place),
             None => None,
         }
     }
@@ -192,42 +217,27 @@ impl Seat {
         Ok(())
     }
 
-    /// Takes the piece that waits longest as a job. It is `true` where no job is out, the connection isn't over and a piece waits, and
-    /// else nothing changes. It takes no memory.
-    pub fn take(&mut self) -> bool
-        ensures answer { result ≡ may_take_now self.old }
-        ensures now { Becomes (with_taken self.old) self.new }
+    /// Takes the piece that waits longest as a job, and answers what it needs from the connection, so that the callbacks run without it.
+    /// It is `None` where a job is out, the connection is over or no piece waits, and then nothing changes.
+    pub fn take(&mut self) -> Result<Option<Task>, OutOfMemory>
+        ensures answer { IfOk result (λ t. t ≡ next_task_of self.old) }
+        ensures now { OnOk result (Becomes (with_taken self.old) self.new) }
+        ensures none { IfOk result (λ t. t ≡ None → self.new ≡ self.old) }
+        ensures err { OnErr result (self.new ≡ self.old) }
     {
         if self.job.is_some() || self.conn.is_over() {
-            return false;
-        }
-        self.job = self.inbox.take();
-        self.job.is_some()
-    }
-
-    /// What the piece that is out needs from the connection, so that the callbacks run without it.
-    pub fn task(&self) -> Result<Task, OutOfMemory>
-        requires { is_some self.now.job ≡ true }
-        ensures { (p : Placed) → self.now.job ≡ Some p → IfOk result (λ t. t ≡ task_of (bare self.now.subs) p.piece) }
-    {
-        let Some(taken) = &self.job else {
-            unreachable!()
-        };
-        self.conn.task(&taken.piece)
-    }
-
-    /// What the piece that `take` would take needs from the connection, so that the callbacks run without it. It is `None` where `take` would
-    /// take none.
-    pub fn next_task(&self) -> Result<Option<Task>, OutOfMemory>
-        ensures { IfOk result (λ t. t ≡ next_task_of self.now) }
-    {
-        if !self.may_take() {
             return Ok(None);
         }
         let Some(piece) = self.inbox.first() else {
             return Ok(None);
         };
-        Ok(Some(self.conn.task(piece)?))
+        let task = self.conn.task(piece)?;
+        let answer = task.copy(self.alloc)?;
+        let Some(taken) = self.inbox.take() else {
+            unreachable!()
+        };
+        self.job = Some(Job { taken, task });
+        Ok(Some(answer))
     }
 
     /// Whether this is what the piece that is out needs from the connection. It takes no memory.
@@ -235,7 +245,7 @@ impl Seat {
         ensures { (result ≡ true) ↔ (task_out_of self.now ≡ Some task.now) }
     {
         match &self.job {
-            Some(taken) => is_piece_task(task, self.conn.subs(), &taken.piece),
+            Some(job) => job.needs(task),
             None => false,
         }
     }
@@ -259,12 +269,12 @@ impl Seat {
         requires { CanFinish plan.now.change self.old }
         ensures { Becomes (with_change plan.now.change self.old) self.new }
     {
-        let Some(taken) = self.job.take() else {
+        let Some(job) = self.job.take() else {
             unreachable!()
         };
         strike(&mut self.inbox, self.conn.subs(), &plan.change);
         self.conn
-            .apply(plan, SubNo(taken.place), WantNo(self.made + 1));
+            .apply(plan, SubNo(job.taken.place), WantNo(self.made + 1));
         self.made += plan.change.wants_made();
     }
 

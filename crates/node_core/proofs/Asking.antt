@@ -2,8 +2,11 @@
 use Rattle.std.proofs.Common.{◌≡◌, ◌≢◌, ◌+◌, ◌==◌, ℕ, ℤ, Bool, true, false, not, ◌&&◌, List, [], ◌∷◌, map, length, Option, Some, None, refl, sym, ap, subst, ◌∙◌, arith, inr}
 use Rattle.std.specs.Prelude.{cond, MatchOption}
 use Rattle.std.specs.FinMap as maps
+use Rattle.std.specs.Ordering.{int_eq}
 use Rattle.std.specs.List.{All}
+use Rattle.std.specs.List.Sorted.{IsPermutation}
 use Rattle.std.proofs.lemmas.Bool.Decides.{nat_tests}
+use Rattle.std.proofs.lemmas.List.Sorted.{list_any-IsPermutation}
 use Rattle.cable_base.specs.Hash.{channel_hash_of}
 use Rattle.cable_base.specs.declared.numbers.NodeNo.{NodeNo}
 use Rattle.cable_base.specs.declared.numbers.RowId.{RowId}
@@ -63,19 +66,19 @@ module _ {past : List Step} {v : Numbers} {outs : OutboxesState} {k : CursorStat
       }
 
 -- the turn that was asked is the next one
-pub next-turn : (n : NodeState) (v : Numbers) (k : CursorState) (holds : HoldMap) (ws : List Wanted) (taken : ℕ) (o : Option TurnState) (t : TurnState)
-    → Stands (past n) v n.outs k holds ws taken → All (λ name. holds_at holds name ≢ []) (maps.keys holds)
-    → o ≡ Some (record { node = n.no; number = k.turns + 1; lower = k.lower; hashes = map channel_hash_of (maps.keys holds) })
+pub next-turn : (n : NodeState) (v : Numbers) (k : CursorState) (holds : HoldMap) (ws : List Wanted) (taken : ℕ) (hashes : List ℤ) (o : Option TurnState) (t : TurnState)
+    → Stands (past n) v n.outs k holds ws taken → IsPermutation hashes (map channel_hash_of (maps.keys holds)) → All (λ name. holds_at holds name ≢ []) (maps.keys holds)
+    → o ≡ Some (record { node = n.no; number = k.turns + 1; lower = k.lower; hashes = hashes })
     → o ≡ Some t → IsNextTurn t n
-next-turn n v k holds ws taken o t h keyed is this =
-    let same : Some (record { node = n.no; number = k.turns + 1; lower = k.lower; hashes = map channel_hash_of (maps.keys holds) }) ≡ Some t = sym is ∙ this in
-    let e : (record { node = n.no; number = k.turns + 1; lower = k.lower; hashes = map channel_hash_of (maps.keys holds) }) ≡ t = cc same in
+next-turn n v k holds ws taken hashes o t h hashed keyed is this =
+    let same : Some (record { node = n.no; number = k.turns + 1; lower = k.lower; hashes = hashes }) ≡ Some t = sym is ∙ this in
+    let e : (record { node = n.no; number = k.turns + 1; lower = k.lower; hashes = hashes }) ≡ t = cc same in
     subst (λ (x : TurnState). IsNextTurn x n) e
     (record {
       node = refl;
       number = let t = h.listens.turns in omega (arith, t);
       lower_is = h.listens.lower_is;
-      asks = λ x. names-held channel_hash_of (past n) holds x h.legal h.held keyed;
+      asks = λ x. list_any-IsPermutation (λ y. int_eq y x) hashes (map channel_hash_of (maps.keys holds)) hashed ∙ names-held channel_hash_of (past n) holds x h.legal h.held keyed;
     })
 
 -- ---- what a turn caught

@@ -12,6 +12,7 @@ pub mod TakingOut
 pub mod Carrying
 pub mod TakingJobs
 pub mod Refreshing
+pub mod EachOnce
 pub mod StayingReady
 pub mod TakingNext
 pub mod Drained

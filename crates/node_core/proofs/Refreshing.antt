@@ -116,6 +116,20 @@ module _ (v : Numbers) (looked more : List ConnNo) where
         );
       }
 
+-- a look at the same numbers
+pub looks-same : (v : Numbers) (looked all old new : List ConnNo) → ((c : ConnNo) → has_number c looked ≡ has_number c all) → Refreshes v looked old new → Refreshes v all old new
+looks-same v looked all old new same f =
+    record {
+      ready = λ c. f.ready c ∙ ap (λ b. cond b (may_take_at c.0 v) (has_number c old)) (same c);
+      order = (
+        f.order.0,
+        f.order.1
+            ∙ ap (λ (ns : List ConnNo). ns ++ f.order.0)
+            (filter-same (λ (c : ConnNo). cond (has_number c looked) (may_take_at c.0 v) true) (λ (c : ConnNo). cond (has_number c all) (may_take_at c.0 v) true) old
+            (λ c. ap (λ b. cond b (may_take_at c.0 v) true) (same c))),
+      );
+    }
+
 -- a loop's step
 pub looks-more : (v : Numbers) (conns : List ConnNo) (i : ℕ) (d conn : ConnNo) (old mid new : List ConnNo) → i < length conns → conn ≡ get_or conns i d
     → Refreshes v (take i conns) old mid → Refreshes v (conn ∷ []) mid new → Refreshes v (take (i + 1) conns) old new

@@ -24,14 +24,13 @@ use Rattle.node_seats.specs.declared.turning.Delivery.{Delivery}
 use Rattle.node_seats.specs.declared.turning.Wanted.{Wanted}
 use Rattle.node_seats.specs.AreSeats.{AreSeats, IsOpened}
 use Rattle.node_seats.specs.Numbers.{Numbers, Moves, Lives, Prepares, Finished, Restarts, Stops, opened_at, seat_at, seat_in, may_take_in, may_take_at, receiving_among, is_receiving_in}
-use Rattle.node_seats.specs.Turned.{TurnsOne, Roomier, Delivers, Places, pieces_for}
+use Rattle.node_seats.specs.Turned.{TurnsOne, Roomier, Delivers, Places, next_task_in, pieces_for}
 use Rattle.node_seats.proofs.Entries.{live}
 use Rattle.node_seats.proofs.Lookups.{at-is, found-there, found-elsewhere, new-there, new-elsewhere}
 use Rattle.node_seats.proofs.Onward.{entries}
 use Rattle.poll_turn.specs.Turns.{CursorState}
 use Rattle.run_queue.specs.ReadyLists.{has_number}
 use Rattle.subscriber_map.specs.HoldMaps.{HoldMap}
-use Rattle.node_core.specs.Jobs.{next_job_in}
 use Rattle.node_core.specs.Nodes.{NodeState, Stands, AreReady, GoesOn, ForgetsNone, ReadsSame, TakesNone}
 use Rattle.node_core.specs.Nodes as nodes
 use Rattle.node_core.specs.Opening.{OpensAs}
@@ -42,7 +41,7 @@ use Rattle.node_core.proofs.Telling.{worked}
 
 -- ---- what the journal says
 
-next-in : (o : Option Seated) → is_some (next_job_in o) ≡ may_take_in o
+next-in : (o : Option Seated) → is_some (next_task_in o) ≡ may_take_in o
 next-in None = refl
 next-in (Some s) = next-if s
 

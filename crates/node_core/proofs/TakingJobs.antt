@@ -22,11 +22,11 @@ use Rattle.node_seats.specs.declared.opened.Opened.{Opened}
 use Rattle.node_seats.specs.declared.opened.Opened.TheVariants as kept
 use Rattle.node_seats.specs.Numbers.{Numbers, Moves, Lives, opened_at, seat_at, seat_in}
 use Rattle.node_seats.specs.AreSeats.{AreSeats, AreWorked}
+use Rattle.node_seats.specs.Turned.{next_task_in, next_task_at}
 use Rattle.node_seats.proofs.Entries.{live, takes}
 use Rattle.node_seats.proofs.Lookups.{found-there}
 use Rattle.node_seats.proofs.Onward.{used-is}
-use Rattle.node_core.specs.declared.jobs.NextJob.{NextJob}
-use Rattle.node_core.specs.Jobs.{JobState, IsJob, task_out, next_job_in, place_in}
+use Rattle.node_core.specs.Jobs.{JobState, IsJob, task_out, place_in}
 use Rattle.node_core.specs.Nodes.{NodeState}
 use Rattle.node_core.proofs.Telling.{receiving-unopened}
 
@@ -94,24 +94,21 @@ takes-first v may = by-list v.waiting refl
 takes-nothing : (v : Seated) → may_take_now v ≡ false → next_task_of v ≡ None
 takes-nothing v may = ap (λ (b : Bool). cond b (option_map (task_in v) (first_of v.waiting)) None) may
 
-pub next-if : (v : Seated) → is_some (next_job_in (Some v)) ≡ may_take_now v
+pub next-if : (v : Seated) → is_some (next_task_of v) ≡ may_take_now v
 next-if v = by-test (may_take_now v) refl
   where
-    as_job : Task → NextJob
-    as_job t = record { user = v.user; task = t }
-
-    by-test : (b : Bool) → may_take_now v ≡ b → is_some (option_map as_job (next_task_of v)) ≡ may_take_now v
-    by-test true e = let t = takes-first v e in ap (λ (o : Option Task). is_some (option_map as_job o)) t.1.next ∙ sym e
-    by-test false e = ap (λ (o : Option Task). is_some (option_map as_job o)) (takes-nothing v e) ∙ sym e
+    by-test : (b : Bool) → may_take_now v ≡ b → is_some (next_task_of v) ≡ may_take_now v
+    by-test true e = let t = takes-first v e in ap is_some t.1.next ∙ sym e
+    by-test false e = ap is_some (takes-nothing v e) ∙ sym e
 
 take-unlive : (c : ℕ) (past : List Step) → is_live c past ≡ false → can_take c past ≡ false
 take-unlive c past l = rw l refl
 
 -- a piece would be taken exactly where it can be
-pub next-is : (c : ℕ) (past : List Step) (v : Numbers) → AreWorked past → AreSeats past v → is_some (next_job_in (seat_at c v)) ≡ can_take c past
+pub next-is : (c : ℕ) (past : List Step) (v : Numbers) → AreWorked past → AreSeats past v → is_some (next_task_at c v) ≡ can_take c past
 next-is c past v w a = by-kept (opened_at c v) refl (used-is past v c a)
   where
-    by-kept : (o : Option Opened) → opened_at c v ≡ o → is_some o ≡ is_opened c past → is_some (next_job_in (seat_in o)) ≡ can_take c past
+    by-kept : (o : Option Opened) → opened_at c v ≡ o → is_some o ≡ is_opened c past → is_some (next_task_in (seat_in o)) ≡ can_take c past
     by-kept None at used = sym (take-unlive c past (receiving-unopened c past (sym used)))
     by-kept (Some (kept.Live s)) at used =
         let h = a.each c (kept.Live s) at in
@@ -119,49 +116,53 @@ next-is c past v w a = by-kept (opened_at c v) refl (used-is past v c a)
         next-if s ∙ (answers pl.0 c past s pl.1 h.0).takes
     by-kept (Some kept.Over) at used = sym (take-unlive c past (a.each c kept.Over at).live)
 
-pub next-live : (o : Option Seated) (n : NextJob) → next_job_in o ≡ Some n → is_some o ≡ true
-next-live None n e = absurd cc
-next-live (Some s) n e = refl
+-- of one that isn't live none can be taken
+pub none-unlive : (c : ℕ) (past : List Step) (v : Numbers) → AreWorked past → AreSeats past v → option_map (λ (s : Seated). s.user) (seat_at c v) ≡ None → false ≡ can_take c past
+none-unlive c past v w a none = sym (ap (λ (o : Option Seated). is_some (next_task_in o)) (by-seat (seat_at c v) none)) ∙ next-is c past v w a
+  where
+    by-seat : (o : Option Seated) → option_map (λ (s : Seated). s.user) o ≡ None → o ≡ None
+    by-seat None e = refl
+    by-seat (Some s) e = absurd cc
 
 -- where a piece would be taken it may be
-pub next-may : (c : ℕ) (v : Numbers) (n : NextJob) → next_job_in (seat_at c v) ≡ Some n → (s : Seated) → opened_at c v ≡ Some (kept.Live s) → may_take_now s ≡ true
-next-may c v n e s at =
-    let f : next_job_in (Some s) ≡ Some n = sym (ap (λ (o : Option Opened). next_job_in (seat_in o)) at) ∙ e in
+pub next-may : (c : ℕ) (v : Numbers) (t : Task) → next_task_at c v ≡ Some t → (s : Seated) → opened_at c v ≡ Some (kept.Live s) → may_take_now s ≡ true
+next-may c v t e s at =
+    let f : next_task_of s ≡ Some t = sym (ap (λ (o : Option Opened). next_task_in (seat_in o)) at) ∙ e in
     sym (next-if s) ∙ ap is_some f
 
 -- the piece that was taken is the job that is out
-pub record IsOut (c : ℕ) (past : List Step) (n : NextJob) (place : ℕ) : Type 0 where
+pub record IsOut (c : ℕ) (past : List Step) (user : List ℕ) (t : Task) (place : ℕ) : Type 0 where
   pub place_is : place ≡ (seat c past).taken
-  pub user_is : user_of c past ≡ Some n.user
-  pub task_is : task_out c past ≡ Some n.task
+  pub user_is : user_of c past ≡ Some user
+  pub task_is : task_out c past ≡ Some t
 
-pub takes-job : (c : ℕ) (past : List Step) (v new : Numbers) (n : NextJob) (place : ℕ) → AreWorked past → AreSeats past v → next_job_in (seat_at c v) ≡ Some n
-    → Moves c (Lives (λ s t. Becomes (with_taken s) t)) v new → place ≡ place_in (seat_at c new) → IsOut c (Step.Take c ∷ past) n place
-takes-job c past v new n place w a next m is =
+pub takes-job : (c : ℕ) (past : List Step) (v new : Numbers) (user : List ℕ) (t : Task) (place : ℕ) → AreWorked past → AreSeats past v
+    → option_map (λ (s : Seated). s.user) (seat_at c v) ≡ Some user → next_task_at c v ≡ Some t
+    → Moves c (Lives (λ s t. Becomes (with_taken s) t)) v new → place ≡ place_in (seat_at c new) → IsOut c (Step.Take c ∷ past) user t place
+takes-job c past v new user t place w a is_user next m is =
     let l = live (λ s t. Becomes (with_taken s) t) c v new m in
     let s = l.old_seat in
-    let t = l.new_seat in
-    let may = next-may c v n next s l.found in
+    let out = l.new_seat in
+    let may = next-may c v t next s l.found in
     let first = takes-first s may in
     let p = first.0 in
-    let there : opened_at c new ≡ Some (kept.Live t) = ap (opened_at c) l.now ∙ found-there c (kept.Live t) (kept.Live s) v l.found in
-    let h = ((takes c past v new w a m (next-may c v n next)).each c (kept.Live t) there).0 in
-    let job_is : t.job ≡ Some p = ap (λ (x : Seated). x.job) l.moved_by.now ∙ first.1.job in
-    let subs_is : t.subs ≡ s.subs = ap (λ (x : Seated). x.subs) l.moved_by.now ∙ first.1.subs in
-    let next_is : Some (record { user = s.user; task = task_in s p }) ≡ Some n =
-    sym (ap (option_map (λ (x : Task). record { user = s.user; task = x })) first.1.next) ∙ (sym (ap (λ (o : Option Opened). next_job_in (seat_in o)) l.found) ∙ next) in
-    let same : record { user = s.user; task = task_in s p } ≡ n = cc (next_is) in
+    let there : opened_at c new ≡ Some (kept.Live out) = ap (opened_at c) l.now ∙ found-there c (kept.Live out) (kept.Live s) v l.found in
+    let h = ((takes c past v new w a m (next-may c v t next)).each c (kept.Live out) there).0 in
+    let job_is : out.job ≡ Some p = ap (λ (x : Seated). x.job) l.moved_by.now ∙ first.1.job in
+    let subs_is : out.subs ≡ s.subs = ap (λ (x : Seated). x.subs) l.moved_by.now ∙ first.1.subs in
+    let task_is : Some (task_in s p) ≡ Some t = sym first.1.next ∙ (sym (ap (λ (o : Option Opened). next_task_in (seat_in o)) l.found) ∙ next) in
+    let same_user : Some s.user ≡ Some user = sym (ap (λ (o : Option Opened). option_map (λ (x : Seated). x.user) (seat_in o)) l.found) ∙ is_user in
     record {
-      place_is = is ∙ (ap (λ (o : Option Opened). place_in (seat_in o)) there ∙ (ap place_of job_is ∙ place-out c (Step.Take c ∷ past) t p h job_is));
-      user_is = h.user ∙ ap (λ (u : List ℕ). Some u) (ap (λ (x : Seated). x.user) l.moved_by.now ∙ first.1.user ∙ ap (λ (x : NextJob). x.user) same);
-      task_is = task-out c (Step.Take c ∷ past) t h
-          ∙ (ap (option_map (task_in t)) job_is
-          ∙ ap (λ (x : Task). Some x) (ap (λ ss. task_of (bare ss) p.piece) subs_is ∙ ap (λ (x : NextJob). x.task) same));
+      place_is = is ∙ (ap (λ (o : Option Opened). place_in (seat_in o)) there ∙ (ap place_of job_is ∙ place-out c (Step.Take c ∷ past) out p h job_is));
+      user_is = h.user ∙ (ap (λ (u : List ℕ). Some u) (ap (λ (x : Seated). x.user) l.moved_by.now ∙ first.1.user) ∙ same_user);
+      task_is = task-out c (Step.Take c ∷ past) out h
+          ∙ (ap (option_map (task_in out)) job_is
+          ∙ (ap (λ ss. Some (task_of (bare ss) p.piece)) subs_is ∙ task_is));
     }
 
-pub job-is : (n : NodeState) (conn : ConnNo) (before : List Step) (next : NextJob) (place : ℕ) → IsOut conn.0 (Step.Take conn.0 ∷ before) next place → past_of n.kept ≡ Step.Take conn.0 ∷ before
-    → IsJob (record { node = n.no; conn = conn; place = place; user = next.user; task = next.task }) n
-job-is n conn before next place o now =
+pub job-is : (n : NodeState) (conn : ConnNo) (before : List Step) (user : List ℕ) (t : Task) (place : ℕ) → IsOut conn.0 (Step.Take conn.0 ∷ before) user t place → past_of n.kept ≡ Step.Take conn.0 ∷ before
+    → IsJob (record { node = n.no; conn = conn; place = place; user = user; task = t }) n
+job-is n conn before user t place o now =
     record {
       node = refl;
       place = o.place_is ∙ ap (λ (p : List Step). (seat conn.0 p).taken) (sym now);
@@ -169,8 +170,8 @@ job-is n conn before next place o now =
       task = ap (task_out conn.0) now ∙ o.task_is;
     }
 
-pub given-back : (n : NodeState) (conn : ConnNo) (before : List Step) (next : NextJob) (place : ℕ) (j : JobState) → IsOut conn.0 (Step.Take conn.0 ∷ before) next place → past_of n.kept ≡ Step.Take conn.0 ∷ before
-    → Some (record { node = n.no; conn = conn; place = place; user = next.user; task = next.task }) ≡ Some j → (j.conn ≡ conn) × IsJob j n
-given-back n conn before next place j o now e =
-    let same : record { node = n.no; conn = conn; place = place; user = next.user; task = next.task } ≡ j = cc (e) in
-    subst (λ (x : JobState). (x.conn ≡ conn) × IsJob x n) same (refl, job-is n conn before next place o now)
+pub given-back : (n : NodeState) (conn : ConnNo) (before : List Step) (user : List ℕ) (t : Task) (place : ℕ) (j : JobState) → IsOut conn.0 (Step.Take conn.0 ∷ before) user t place → past_of n.kept ≡ Step.Take conn.0 ∷ before
+    → Some (record { node = n.no; conn = conn; place = place; user = user; task = t }) ≡ Some j → (j.conn ≡ conn) × IsJob j n
+given-back n conn before user t place j o now e =
+    let same : record { node = n.no; conn = conn; place = place; user = user; task = t } ≡ j = cc (e) in
+    subst (λ (x : JobState). (x.conn ≡ conn) × IsJob x n) same (refl, job-is n conn before user t place o now)

@@ -13,8 +13,6 @@ use Rattle.cable_model.specs.Wants.{user_of}
 use Rattle.cable_model.specs.Window.{job}
 use Rattle.conn_core.specs.Payloads.{AreCommittable}
 use Rattle.conn_seat.specs.Seats.{Seated, place_of}
-use Rattle.conn_seat.specs.Tasks.{next_task_of}
-use Rattle.node_core.specs.declared.jobs.NextJob.{NextJob}
 use Rattle.node_core.specs.Nodes.{NodeState, past}
 
 pub record JobState : Type 0 where
@@ -39,11 +37,6 @@ abbrev pub task_out : ℕ → List Step → Option Task
 task_out c past = cond (has_job (seat c past)) (option_map (task_of (seat c past).conn) (job (seat c past))) None
 
 -- ---- as what is kept of a number tells it
-
--- the user and the task of the piece that a take would take
-abbrev pub next_job_in : Option Seated → Option NextJob
-next_job_in None = None
-next_job_in (Some s) = option_map (λ (t : Task). record { user = s.user; task = t }) (next_task_of s)
 
 -- the place of the piece that is out, 0 where none is
 abbrev pub place_in : Option Seated → ℕ

@@ -3,7 +3,7 @@ use Rattle.std.specs.Prelude.{◌≡◌, true, cond, List, ◌++◌, filter, map
 use Rattle.cable_base.specs.declared.numbers.ConnNo.{ConnNo}
 use Rattle.node_seats.specs.declared.turning.Delivery.{Delivery}
 use Rattle.node_seats.specs.Numbers.{Numbers, may_take_at}
-use Rattle.run_queue.specs.ReadyLists.{has_number}
+use Rattle.run_queue.specs.ReadyLists.{AreOnce, has_number}
 
 -- each of those that were looked at is ready exactly where a piece of it may be taken, and each other one where it was. Those that stay ready
 -- stay in their order, in front of those that become ready
@@ -17,3 +17,8 @@ conn_of d = d.conn
 -- the connections that these are for
 abbrev pub conns_of : List Delivery → List ConnNo
 conns_of ds = map conn_of ds
+
+-- these are the connections of that list, each once
+pub record ListsOnce (all conns : List ConnNo) : Type 0 where
+  pub each : (c : ConnNo) → has_number c conns ≡ has_number c all
+  pub once : AreOnce conns

@@ -122,6 +122,7 @@ impl Node {
         ensures token { IfErr result (λ w. w ≡ work) }
         ensures err { OnErr result (ReadsSame self.old self.new) }
     {
+        // Room first: behind `make_room` nothing can fail.
         let Ok(()) = self.ready.reserve(1) else {
             return Err(work);
         };
@@ -147,6 +148,7 @@ impl Node {
         let Some(seat) = self.seats.get(conn) else {
             unreachable!()
         };
+        // The holds and the wants are read off the seat as it was.
         release(&mut self.holders, conn, seat, &plan.change);
         self.wants
             .put_change(conn, SubNo(place), seat, &plan.change);

@@ -1,10 +1,10 @@
-ghost use Rattle.std.specs.Prelude.{◌≡◌, ◌≤◌, ℕ, [], None, Some, false, cond, is_some, length, slice_get, vec_capacity, OnErr, IfOk, IfErr, ◌∷◌};
+ghost use Rattle.std.specs.Prelude.{◌≡◌, ◌≤◌, ℕ, [], None, Some, false, cond, is_some, length, option_map, slice_get, vec_capacity, OnErr, IfOk, IfErr, ◌∷◌};
 ghost use Rattle.cable_model.specs.Plans.{IsAnswered, plan_for};
 ghost use Rattle.cable_model.specs.Possible.{can_take};
 ghost use Rattle.cable_model.specs.Steps.{Step};
 ghost use Rattle.conn_core.specs.Payloads.{AreCommittable, CarriesJson};
 ghost use Rattle.node_seats.specs.Numbers.{seat_at};
-ghost use Rattle.node_core.specs.Jobs.{IsJob, JobState, next_job_in, place_in, work_of};
+ghost use Rattle.node_core.specs.Jobs.{IsJob, JobState, place_in, work_of};
 ghost use Rattle.node_core.specs.Nodes.{GoesOn, HasReady, past, ReadsSame};
 
 use crate::nodes::Node;
@@ -16,13 +16,6 @@ use conn_core::plan;
 use node_seats::Seats;
 use std::alloc::Global;
 use std::marker::Model;
-
-/// What a job is made of, before its piece is taken.
-#[derive(Debug, Drop)]
-struct NextJob {
-    user: Text,
-    task: Task,
-}
 
 /// The plan of a job, with room to note a commit for each of its casts.
 #[derive(Debug, Drop)]
@@ -135,18 +128,14 @@ fn make_plan<C: Callbacks>(
     Ok(Planned { plan, puts })
 }
 
-/// What the piece that a take would take needs, and its user, where one would be taken.
-fn next_job(seats: &Seats, alloc: Global, conn: ConnNo) -> Result<Option<NextJob>, OutOfMemory>
-    ensures { IfOk result (λ o. o ≡ next_job_in (seat_at conn.0 seats.now.entries)) }
+/// The user of the connection, where it is live.
+fn user_of(seats: &Seats, alloc: Global, conn: ConnNo) -> Result<Option<Text>, OutOfMemory>
+    ensures { IfOk result (λ u. u ≡ option_map (λ s. s.user) (seat_at conn.0 seats.now.entries)) }
 {
     let Some(seat) = seats.get(conn) else {
         return Ok(None);
     };
-    let Some(task) = seat.next_task()? else {
-        return Ok(None);
-    };
-    let user = Text::new(alloc, seat.user())?;
-    Ok(Some(NextJob { user, task }))
+    Ok(Some(seat.user_text().copy(alloc)?))
 }
 
 /// The place of the piece of the connection that is out.
@@ -174,12 +163,15 @@ impl Node {
         ensures goes { GoesOn self.old self.new }
         ensures err { OnErr result (ReadsSame self.old self.new) }
     {
-        let next = next_job(&self.seats, self.alloc, conn)?;
-        let Some(next) = next else {
+        let user = user_of(&self.seats, self.alloc, conn)?;
+        let Some(user) = user else {
             return Ok(None);
         };
         self.journal.reserve()?;
-        self.seats.take(conn);
+        let task = self.seats.take(conn)?;
+        let Some(task) = task else {
+            return Ok(None);
+        };
         self.ready.drop_out(conn);
         self.journal.enter(Entry::Take { conn }, Beside::Nothing);
         Ok(Some(Job {
@@ -187,8 +179,8 @@ impl Node {
             node: self.no,
             conn,
             place: place(&self.seats, conn),
-            user: next.user,
-            task: next.task,
+            user,
+            task,
         }))
     }
 

@@ -41,7 +41,11 @@ impl Model for Node {
 
     ghost view = { λ n. record { no = n.no; kept = n.journal.kept; outs = n.outboxes; ready = n.ready.waiting } };
 
-    ghost invariant = { λ n. Stands (past_of n.journal.kept) n.seats.entries n.outboxes n.cursor n.holders n.wants.wanted n.wants.taken × HasTurnRoom (past_of n.journal.kept) n.journal × AreReady n.seats.entries n.ready.waiting };
+    ghost invariant = { λ n. record {
+      stands : Stands (past_of n.journal.kept) n.seats.entries n.outboxes n.cursor n.holders n.wants.wanted n.wants.taken;
+      turn_room : HasTurnRoom (past_of n.journal.kept) n.journal;
+      ready : AreReady n.seats.entries n.ready.waiting;
+    } };
 }
 
 impl Node {

@@ -152,6 +152,7 @@ impl Node {
         let queued = greeting_on(self.alloc, conn, user)?;
         let beside = beside(self.alloc, user)?;
         let token = Text::new(self.alloc, token)?;
+        // Room first: behind `keep`, which changes nothing where it fails, nothing can fail.
         self.outboxes.reserve(conn, 1)?;
         self.wants.reserve(1)?;
         self.journal.reserve()?;

@@ -1,6 +1,6 @@
 ghost use Rattle.std.specs.Prelude.{◌≡◌, ◌≤◌, ◌+◌, ◌∷◌, [], length, IfOk};
 ghost use Rattle.node_seats.specs.Numbers.{may_take_at};
-ghost use Rattle.node_core.specs.Serving.{conns_of, Refreshes};
+ghost use Rattle.node_core.specs.Serving.{conns_of, ListsOnce, Refreshes};
 
 use cable_base::{ConnNo, OutOfMemory};
 use node_seats::{Delivery, Seats};
@@ -41,13 +41,22 @@ pub(crate) fn refresh_all(ready: &mut Ready, seats: &Seats, conns: &[ConnNo])
     }
 }
 
-/// The connections that these are for.
+/// Leaves each connection of the list once. It takes no memory.
+fn leave_once(conns: &mut Vec<ConnNo>)
+    ensures { ListsOnce conns.old.items conns.new.items }
+{
+    conns.sort_unstable();
+    conns.dedup();
+}
+
+/// The connections that these are for, each once.
 pub(crate) fn conns_of(alloc: Global, deliveries: &[Delivery]) -> Result<Vec<ConnNo>, OutOfMemory>
-    ensures { IfOk result (λ conns. conns.items ≡ conns_of deliveries.now) }
+    ensures { IfOk result (λ conns. ListsOnce (conns_of deliveries.now) conns.items) }
 {
     let mut conns = Vec::new(alloc);
     for delivery in deliveries {
         conns.push(delivery.conn)?;
     }
+    leave_once(&mut conns);
     Ok(conns)
 }

@@ -1,5 +1,4 @@
-ghost use Rattle.std.specs.Prelude.{◌≡◌, ◌≤◌, ◌∷◌, ◌++◌, [], suc, true, false, cond, length, not, map, None, Some, is_some, IfOk, IfErr, OnOk, OnErr, IsOk};
-ghost use Rattle.cable_base.specs.Hash.{channel_hash_of};
+ghost use Rattle.std.specs.Prelude.{◌≡◌, ◌≤◌, ◌+◌, ◌∷◌, ◌++◌, [], suc, true, false, cond, length, not, None, Some, is_some, IfOk, IfErr, OnOk, OnErr, IsOk};
 ghost use Rattle.cable_model.specs.Possible.{is_out, last_turn};
 ghost use Rattle.cable_model.specs.Steps.{Step};
 ghost use Rattle.node_holds.specs.Holding.{AreNew, placings_of, rows_bring, with_placings};
@@ -7,33 +6,22 @@ ghost use Rattle.node_seats.specs.Turned.{HasRoomFor, Roomier};
 ghost use Rattle.poll_turn.specs.Turns.{TurnState};
 ghost use Rattle.turn_wants.specs.Wants.{confirms_of};
 ghost use Rattle.node_core.specs.Nodes.{GoesOn, past, ReadsSame};
-ghost use Rattle.node_core.specs.Serving.{conns_of};
+ghost use Rattle.node_core.specs.Serving.{conns_of, ListsOnce};
 ghost use Rattle.node_core.specs.Turned.{IsNextTurn, is_expected};
 ghost use Rattle.poll_turn.specs.Notes.{note_in};
 
 use crate::nodes::Node;
 use crate::serving::{conns_of, refresh_all};
-use cable_base::{ConnNo, Listed, Name, OutOfMemory, Row, Steps};
+use cable_base::{ConnNo, Listed, OutOfMemory, Row, Steps};
 use cable_model::{Beside, Entry, ReadNote};
 use node_holds::{add_rows, hold_all, placings};
 use node_seats::{Delivery, Seats, Wanted};
-use poll_turn::{Caught, Turn, channel_hash};
+use poll_turn::{Caught, Turn};
 use run_queue::Ready;
 use std::alloc::Global;
 use std::sync::ledger::Ledger;
 use subscriber_map::SubscriberMap;
 use turn_wants::add_confirms;
-
-/// The hashes of these names.
-fn hashes(alloc: Global, names: &[Name]) -> Result<Vec<i64>, OutOfMemory>
-    ensures { IfOk result (λ hs. hs.items ≡ map channel_hash_of names.now) }
-{
-    let mut hashes = Vec::new(alloc);
-    for name in names {
-        hashes.push(channel_hash(name.as_str()))?;
-    }
-    Ok(hashes)
-}
 
 /// A list with copies of these rows.
 fn copied_rows(alloc: Global, rows: &[Row]) -> Result<Listed<Row>, OutOfMemory>
@@ -60,7 +48,7 @@ fn note_with(caught: &Caught, rows: Listed<Row>) -> ReadNote
     }
 }
 
-/// What a turn that isn't missed brings: its note, the pieces that it puts, and the connections that these are for.
+/// What a turn that isn't missed brings: its note, the pieces that it puts, and the connections that these are for, each once.
 #[derive(Debug, Drop)]
 struct Brought {
     note: ReadNote,
@@ -85,9 +73,10 @@ fn bring<L: Ledger>(
     ensures room { IfOk result (λ b. HasRoomFor b.deliveries.items seats.new.entries) }
     ensures held { OnOk result (holders.new ≡ with_placings (placings_of seats.old.entries caught.now.last taken.now) holders.old) }
     ensures err { OnErr result (holders.new ≡ holders.old) }
-    ensures conns { IfOk result (λ b. b.conns.items ≡ conns_of b.deliveries.items) }
+    ensures conns { IfOk result (λ b. ListsOnce (conns_of b.deliveries.items) b.conns.items) }
     ensures ready { ready.new.waiting ≡ ready.old.waiting }
     ensures ready_room { IfOk result (λ b. length b.conns.items ≤ ready.new.spare) }
+    ensures steps { (steps.old ≤ steps.new) × (steps.new ≤ steps.old + length caught.now.rows) }
 {
     let note = note_with(caught, copied_rows(alloc, caught.rows())?);
     let mut deliveries = Vec::new(alloc);
@@ -123,8 +112,7 @@ impl Node {
         if self.cursor.turns() == u64::MAX {
             return Err(OutOfMemory);
         }
-        let names = self.holders.names(self.alloc)?;
-        let hashes = hashes(self.alloc, names.as_slice())?;
+        let hashes = self.holders.hashes(self.alloc)?;
         self.journal.reserve()?;
         let turn = self.cursor.ask(self.no, hashes);
         self.wants.take_all();
@@ -146,14 +134,15 @@ impl Node {
 
     /// Delivers what the turn that is out caught. Of a turn that was missed nothing comes but that it ends, and it takes no memory. Else each
     /// row is put for the holds of its name whose mark is below its id, then the wants that the turn took and that stand are held, with
-    /// the table's last id at the read as their mark, and then their confirmations are put. What was caught comes back where memory is
-    /// wanted, and then all is as before.
+    /// the table's last id at the read as their mark, and then their confirmations are put. A row's name is looked up once at most, whatever
+    /// its holds. What was caught comes back where memory is wanted, and then all is as before.
     pub fn deliver<L: Ledger>(&mut self, caught: Caught, steps: &mut Steps<L>) -> Result<(), Caught>
         requires { is_expected caught self.old ≡ true }
         ensures no { self.new.no ≡ self.old.no }
         ensures ok { OnOk result (past self.new ≡ Step.Deliver caught.number (note_in caught) ∷ past self.old) }
         ensures goes { GoesOn self.old self.new }
         ensures missed { caught.is_missed ≡ true → IsOk result }
+        ensures steps { (steps.old ≤ steps.new) × (steps.new ≤ steps.old + length caught.rows) }
         ensures token { IfErr result (λ k. k ≡ caught) }
         ensures err { OnErr result (ReadsSame self.old self.new) }
     {
@@ -187,6 +176,7 @@ impl Node {
         ensures no { self.new.no ≡ self.old.no }
         ensures ok { OnOk result (past self.new ≡ Step.Deliver caught.number (note_in caught) ∷ past self.old) }
         ensures goes { GoesOn self.old self.new }
+        ensures steps { (steps.old ≤ steps.new) × (steps.new ≤ steps.old + length caught.rows) }
         ensures token { IfErr result (λ k. k ≡ caught) }
         ensures err { OnErr result (ReadsSame self.old self.new) }
     {
@@ -206,6 +196,7 @@ impl Node {
             deliveries,
             conns,
         } = brought;
+        // From here on nothing can fail: `bring` made the room.
         let turn = caught.number();
         self.seats.place_all(self.wants.taken(), caught.last());
         self.seats.put_all(deliveries);

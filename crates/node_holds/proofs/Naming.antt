@@ -1,12 +1,14 @@
 -- The names that have a hold are those that the node's journal says.
 use Rattle.std.proofs.Common.{ℕ, ◌≡◌, ◌≢◌, ◌==◌, Bool, true, false, cond, not, ◌||◌, List, [], ◌∷◌, ◌++◌, map, Option, Some, None, refl, ap, sym, subst, ◌∙◌, arith, bytes_eq, is_some, unwrap_or, ℤ}
 use Rattle.std.specs.List.{All, list_any}
+use Rattle.std.specs.List.Sorted.{IsPermutation}
 use Rattle.std.specs.Ordering.{int_eq, nat_cmp, eq_by_cmp}
 use Rattle.std.specs.Cmp.Lexicographic.{slice_cmp}
 use Rattle.std.specs.FinMap.{get, keys, contains_key-keys}
 use Rattle.std.proofs.lemmas.Bool.Decides.{nat_tests}
 use Rattle.std.proofs.lemmas.List.Elements.{All-head, All-tail}
 use Rattle.std.proofs.lemmas.List.Folds.{list_any-append}
+use Rattle.std.proofs.lemmas.List.Sorted.{list_any-IsPermutation}
 use Rattle.std.proofs.lemmas.Map.Text.{is_eq-slice_cmp}
 use Rattle.std.proofs.lemmas.Slice.Eq.{bytes_eq-Decides}
 use Rattle.cable_base.specs.Names.{own_name}
@@ -255,3 +257,8 @@ key-as m name h = same-tests (among (keys m) name) (some (holds_at m name)) to f
 pub names-held : (hash : List ℕ → ℤ) (past : List Step) (m : HoldMap) (h : ℤ) → Legal past → AreHeld past m → All (λ n. holds_at m n ≢ []) (keys m)
     → contains (map hash (keys m)) h ≡ contains (map hash (held_names past)) h
 names-held hash past m h legal held keyed = same-hashes hash h (keys m) (held_names past) (λ name. key-as m name keyed ∙ held-as past m name held)
+
+-- .. and their hashes in any order
+pub hashes-held : (hash : List ℕ → ℤ) (past : List Step) (m : HoldMap) (hs : List ℤ) (h : ℤ) → Legal past → AreHeld past m → All (λ n. holds_at m n ≢ []) (keys m)
+    → IsPermutation hs (map hash (keys m)) → contains hs h ≡ contains (map hash (held_names past)) h
+hashes-held hash past m hs h legal held keyed same = list_any-IsPermutation (λ g. int_eq g h) hs (map hash (keys m)) same ∙ names-held hash past m h legal held keyed

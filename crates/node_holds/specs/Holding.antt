@@ -1,5 +1,5 @@
 -- What calls make of a node's holds: those that a change ends, those that a turn places, and what rows put for them.
-use Rattle.std.specs.Prelude.{◌≡◌, ⊤, ◌==◌, ◌++◌, ℕ, Bool, true, false, cond, List, [], ◌∷◌, map, filter, flat_map, find, Option, None, Some, ltb}
+use Rattle.std.specs.Prelude.{◌≡◌, ⊤, ◌==◌, ◌++◌, ℕ, cond, List, [], ◌∷◌, map, filter, flat_map, Option, None, Some, ltb}
 use Rattle.cable_base.specs.Names.{own_name}
 use Rattle.cable_base.specs.declared.rows.Row.{Row}
 use Rattle.cable_base.specs.declared.numbers.RowId.{RowId}

@@ -1,4 +1,4 @@
-ghost use Rattle.std.specs.Prelude.{◌≡◌, ◌++◌, IfOk, OnOk, flat_map, option_to_list};
+ghost use Rattle.std.specs.Prelude.{◌≡◌, ◌≤◌, ◌+◌, ◌++◌, IfOk, OnOk, flat_map, length, option_to_list};
 ghost use Rattle.node_holds.specs.Holding.{held_puts, piece_for as piece_of, rows_bring};
 
 use cable_base::{OutOfMemory, Row, Steps};
@@ -62,7 +62,7 @@ fn add_for_holds(
 }
 
 /// Adds what these rows put, in their order: each row for the holds of exactly its name whose mark is below its id. For a connection's own
-/// hold a payload that is a disconnect closes the connection, and another is passed over.
+/// hold a payload that is a disconnect closes the connection, and another is passed over. It takes at most one step a row.
 pub fn add_rows<L: Ledger>(
     deliveries: &mut Vec<Delivery>,
     alloc: Global,
@@ -70,7 +70,10 @@ pub fn add_rows<L: Ledger>(
     rows: &[Row],
     steps: &mut Steps<L>,
 ) -> Result<(), OutOfMemory>
-    ensures { OnOk result (deliveries.new.items ≡ deliveries.old.items ++ rows_bring holders.now rows.now) }
+    ensures rows { OnOk result (deliveries.new.items ≡ deliveries.old.items ++ rows_bring holders.now rows.now) }
+
+    // Whatever the answer, a row takes at most one step.
+    ensures steps { (steps.old ≤ steps.new) × (steps.new ≤ steps.old + length rows.now) }
 {
     for row in rows {
         let holds = holders.holders(row.channel.as_str(), steps);

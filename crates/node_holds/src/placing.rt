@@ -1,11 +1,10 @@
 ghost use Rattle.std.specs.Prelude.{◌≡◌, ◌++◌, IfOk, OnOk, OnErr, Some, map};
-ghost use Rattle.cable_base.specs.Names.{own_name};
 ghost use Rattle.conn_core.specs.Subscriptions.{shown};
 ghost use Rattle.node_seats.specs.Numbers.{seat_at};
 ghost use Rattle.subscriber_map.specs.HoldMaps.{HoldMap};
 ghost use Rattle.node_holds.specs.Holding.{AreNew, AreUndone, name_among, name_wanted, name_in, placing_as, placings_of, with_placings};
 
-use cable_base::{Name, OutOfMemory, RowId, Text, WantNo};
+use cable_base::{Name, OutOfMemory, RowId, WantNo};
 use conn_core::Sub;
 use conn_seat::Seat;
 use node_seats::{Seats, Wanted};
@@ -18,14 +17,6 @@ use subscriber_map::{Hold, SubscriberMap};
 pub struct Placing {
     pub name: Name,
     pub hold: Hold,
-}
-
-/// The name of the stream that disconnects a user.
-fn own_name(alloc: Global, user: &str) -> Result<Name, OutOfMemory>
-    ensures { IfOk result (λ name. name ≡ own_name user.now) }
-{
-    let name = format!(in alloc; "action_cable/{user}")?;
-    Ok(Name::of(Text::of(name)))
 }
 
 /// The name of the stream that was wanted under this number.
@@ -65,7 +56,7 @@ pub(crate) fn name_in(
     ensures { IfOk result (λ name. name ≡ name_in wanted.now (Some seat.now)) }
 {
     if wanted.sub.0 == 0 {
-        return Ok(Some(own_name(alloc, seat.user())?));
+        return Ok(Some(seat.own().copy(alloc)?));
     }
     name_wanted(alloc, seat.subs(), wanted)
 }

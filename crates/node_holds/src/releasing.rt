@@ -116,7 +116,7 @@ pub fn release(holders: &mut SubscriberMap, conn: ConnNo, seat: &Seat, change: &
             release_all_removed(holders, conn, seat.subs(), identifier.as_str())
         }
         Change::Close => {
-            holders.remove_joined("action_cable/", seat.user(), conn, WantNo(0));
+            holders.remove(seat.own().as_str(), conn, WantNo(0));
             release_subs(holders, conn, seat.subs());
         }
     }

@@ -1,6 +1,6 @@
 -- What a call on one number leaves of the others.
 use Rattle.std.proofs.Common.{◌≡◌, ℕ, ◌+◌, ◌-◌, Result, Ok, Err, Bool, true, false, cond, [], ◌∷◌, Option, Some, None, refl, sym, ap, subst, ◌∙◌, arith}
-use Rattle.std.specs.Prelude.{unwrap_or, option_map, OnOk, OnErr}
+use Rattle.std.specs.Prelude.{unwrap_or, option_map, IfOk, OnOk, OnErr}
 use Rattle.cable_base.specs.declared.faults.OutOfMemory.{OutOfMemory}
 use Rattle.cable_model.specs.declared.plans.Change.{Change}
 use Rattle.std.proofs.lemmas.Map.Steps.{set_value_same}
@@ -106,11 +106,22 @@ pub not-found : (c : ℕ) (v : Numbers) (is : NodeSeats) → (record { entries =
 not-found c v is e none = ap (λ (x : NodeSeats). opened_at c x.entries) e ∙ none
 
 -- where nothing changed
-pub same-again : (c count : ℕ) (m n : BTreeMap ℕ Opened) (kept became : Opened) (result : Result (Unit {0}) OutOfMemory) (is : NodeSeats) → (record { entries = m.entries }) ≡ is
-    → get_by (nat_cmp c) m ≡ Some kept → WritesThrough nat_cmp (nat_cmp c) m became n → OnErr result (became ≡ kept) → OnErr result ((record { entries = n.entries }) ≡ is)
-same-again c count m n kept became (Ok u) is view at written same = same
-same-again c count m n kept became (Err e) is view at written same =
+unchanged : (c : ℕ) (m n : BTreeMap ℕ Opened) (kept became : Opened) (is : NodeSeats) → (record { entries = m.entries }) ≡ is
+    → get_by (nat_cmp c) m ≡ Some kept → WritesThrough nat_cmp (nat_cmp c) m became n → became ≡ kept → (record { entries = n.entries }) ≡ is
+unchanged c m n kept became is view at written same =
     ap (λ es. let x : NodeSeats = record { entries = es } in x) (written.0 ∙ set_value_same (is_at (nat_cmp c)) m.entries became (at ∙ ap (λ o. Some o) (sym same))) ∙ view
+
+pub same-again : {A : Type 0} (c : ℕ) (m n : BTreeMap ℕ Opened) (kept became : Opened) (result : Result A OutOfMemory) (is : NodeSeats) → (record { entries = m.entries }) ≡ is
+    → get_by (nat_cmp c) m ≡ Some kept → WritesThrough nat_cmp (nat_cmp c) m became n → OnErr result (became ≡ kept) → OnErr result ((record { entries = n.entries }) ≡ is)
+same-again c m n kept became (Ok a) is view at written same = same
+same-again c m n kept became (Err e) is view at written same = unchanged c m n kept became is view at written same
+
+-- the same, where none was taken
+pub same-unless : {A : Type 0} (c : ℕ) (m n : BTreeMap ℕ Opened) (kept became : Opened) (result : Result (Option A) OutOfMemory) (is : NodeSeats) → (record { entries = m.entries }) ≡ is
+    → get_by (nat_cmp c) m ≡ Some kept → WritesThrough nat_cmp (nat_cmp c) m became n → IfOk result (λ t. t ≡ None → became ≡ kept)
+    → IfOk result (λ t. t ≡ None → (record { entries = n.entries }) ≡ is)
+same-unless c m n kept became (Ok t) is view at written same = λ none. unchanged c m n kept became is view at written (same none)
+same-unless c m n kept became (Err e) is view at written same = same
 
 finished-weight : (change : Change) (kept became : Opened) → Finished change kept became → weight kept ≡ 1
 finished-weight change (opened.Live seat) became f = refl

@@ -1,12 +1,13 @@
-ghost use Rattle.std.specs.Prelude.{◌≡◌, ◌≤◌, IsOk, OnErr, OnOk, Some, false, is_some, true};
+ghost use Rattle.std.specs.Prelude.{◌≡◌, ◌≤◌, IfOk, IsOk, None, OnErr, OnOk, Some, false, is_some, true};
 ghost use Rattle.cable_model.specs.Pieces.{is_closing};
 ghost use Rattle.conn_core.specs.Subscriptions.{placed_in};
-ghost use Rattle.conn_seat.specs.Seats.{Seated, Becomes, CanFinish, may_take_now, with_piece, with_taken};
+ghost use Rattle.conn_seat.specs.Seats.{Seated, Becomes, CanFinish, with_piece, with_taken};
 ghost use Rattle.node_seats.specs.declared.opened.Opened.TheVariants as opened;
-ghost use Rattle.node_seats.specs.Numbers.{CanRestart, Finished, HasRoomIn, Lives, Prepares, Restarts, Widens, is_receiving_in, may_take_in, seat_in, weight};
+ghost use Rattle.node_seats.specs.Numbers.{CanRestart, Finished, HasRoomIn, Lives, Prepares, Restarts, Widens, is_receiving_in, seat_in, weight};
+ghost use Rattle.node_seats.specs.Turned.{next_task_in};
 
 use cable_base::{OutOfMemory, RowId, SubNo, WantNo};
-use cable_model::{Piece, Plan};
+use cable_model::{Piece, Plan, Task};
 use conn_seat::Seat;
 
 /// What a node keeps of a number that was opened on it.
@@ -74,18 +75,19 @@ pub fn put(kept: &mut Opened, piece: Piece) -> Result<(), OutOfMemory>
     }
 }
 
-/// Takes the first piece of a live connection that waits.
-pub fn take(kept: &mut Opened) -> bool
-    requires { is_some (seat_in (Some kept.old)) ≡ true }
-    ensures answer { result ≡ may_take_in (seat_in (Some kept.old)) }
-    ensures taken { Lives (λ s t. Becomes (with_taken s) t) kept.old kept.new }
+/// Takes the piece that waits longest, where the connection is live and one may be taken, and answers what it needs.
+pub fn take(kept: &mut Opened) -> Result<Option<Task>, OutOfMemory>
+    ensures answer { IfOk result (λ t. t ≡ next_task_in (seat_in (Some kept.old))) }
+    ensures taken { IfOk result (λ t. is_some t ≡ true → Lives (λ s t. Becomes (with_taken s) t) kept.old kept.new) }
+    ensures none { IfOk result (λ t. t ≡ None → kept.new ≡ kept.old) }
+    ensures err { OnErr result (kept.new ≡ kept.old) }
     ensures live { weight kept.new ≡ weight kept.old }
     ensures keeps { CanRestart kept.old → CanRestart kept.new }
 {
-    let Opened::Live(seat) = kept else {
-        unreachable!()
-    };
-    seat.take()
+    match kept {
+        Opened::Live(seat) => seat.take(),
+        Opened::Over => Ok(None),
+    }
 }
 
 /// Makes room for the change of a plan on a live connection.

@@ -4,9 +4,9 @@ ghost use Rattle.cable_model.specs.Pieces.{is_closing};
 ghost use Rattle.cable_model.specs.Wants.{makes};
 ghost use Rattle.conn_core.specs.Subscriptions.{placed_in};
 ghost use Rattle.node_seats.specs.Turned.{next_task_at};
-ghost use Rattle.conn_seat.specs.Seats.{Seated, Becomes, CanFinish, vacant, with_piece, with_taken, may_take_now};
+ghost use Rattle.conn_seat.specs.Seats.{Seated, Becomes, CanFinish, vacant, with_piece, with_taken};
 ghost use Rattle.node_seats.specs.declared.opened.Opened.TheVariants as opened;
-ghost use Rattle.node_seats.specs.Numbers.{opened_at, seat_at, is_over_at, may_take_at, live_among, Rising, receiving_among, with_new, Moves, Lives, HasRoomAt, Widens, Prepares, Finished, Stops};
+ghost use Rattle.node_seats.specs.Numbers.{opened_at, seat_at, is_over_at, live_among, Rising, receiving_among, with_new, Moves, Lives, HasRoomAt, Widens, Prepares, Finished, Stops};
 
 use crate::opened::{self, Opened};
 use cable_base::{ConnNo, OutOfMemory, RowId, SubNo, WantNo};
@@ -150,28 +150,18 @@ impl Seats {
         opened::put(kept, piece)
     }
 
-    /// Takes the piece of a live connection that waits longest as a job. It is `true` where no job is out and a piece waits, and else
-    /// nothing changes. It takes no memory.
-    pub fn take(&mut self, conn: ConnNo) -> bool
-        requires live { is_some (seat_at conn.0 self.old.entries) ≡ true }
-        ensures answer { result ≡ may_take_at conn.0 self.old.entries }
-        ensures taken { Moves conn.0 (Lives (λ s t. Becomes (with_taken s) t)) self.old.entries self.new.entries }
+    /// Takes the piece of the connection that waits longest as a job, and answers what it needs, so that the callbacks run without the
+    /// connection. It is `None` where the connection isn't live, a job is out or no piece waits, and then nothing changes.
+    pub fn take(&mut self, conn: ConnNo) -> Result<Option<Task>, OutOfMemory>
+        ensures answer { IfOk result (λ t. t ≡ next_task_at conn.0 self.old.entries) }
+        ensures taken { IfOk result (λ t. is_some t ≡ true → Moves conn.0 (Lives (λ s t. Becomes (with_taken s) t)) self.old.entries self.new.entries) }
+        ensures none { IfOk result (λ t. t ≡ None → self.new ≡ self.old) }
+        ensures err { OnErr result (self.new ≡ self.old) }
     {
         let Some(kept) = self.by_number.get_mut(&conn.0) else {
-            unreachable!()
+            return Ok(None);
         };
         opened::take(kept)
-    }
-
-    /// What the piece that `take` would take needs from its connection, so that the callbacks run without it. It is `None` where the connection
-    /// isn't live or `take` would take none.
-    pub fn next_task(&self, conn: ConnNo) -> Result<Option<Task>, OutOfMemory>
-        ensures { IfOk result (λ t. t ≡ next_task_at conn.0 self.now.entries) }
-    {
-        match self.get(conn) {
-            Some(seat) => seat.next_task(),
-            None => Ok(None),
-        }
     }
 
     /// Gives the want of a live connection its mark: from now on its stream is held. `false` where it doesn't stand without a mark. It takes

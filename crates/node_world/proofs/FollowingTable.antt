@@ -39,14 +39,14 @@ pub record Calls (f f' : KeeperFailures) (failed : Bool) : Type 0 where
   pub fails : is_refused f ≡ failed
   pub behind : f' ≡ after_keeper_call f
 
-pub went_well : {went failed : Type 0} {a a' n n' : ℕ} (f f' : KeeperFailures) → CallsOnce went failed a a' n n' (Some f) (Some f') → (failed → ⊥) → Calls f f' false
+pub went_well : {went failed : Type 0} {a a' n n' : ℕ} (f f' : KeeperFailures) → CallsOnce went failed (record { faults = a; calls = n; failures = Some f }) (record { faults = a'; calls = n'; failures = Some f' }) → (failed → ⊥) → Calls f f' false
 went_well f f' c well = record { fails = by-test (is_refused f) refl; behind = same_Some f' (after_keeper_call f) c.after }
   where
     by-test : (b : Bool) → is_refused f ≡ b → b ≡ false
     by-test false e = refl
     by-test true e = absurd (well (c.fails.1 e))
 
-pub was_refused : {went failed : Type 0} {a a' n n' : ℕ} (f f' : KeeperFailures) → CallsOnce went failed a a' n n' (Some f) (Some f') → failed → Calls f f' true
+pub was_refused : {went failed : Type 0} {a a' n n' : ℕ} (f f' : KeeperFailures) → CallsOnce went failed (record { faults = a; calls = n; failures = Some f }) (record { faults = a'; calls = n'; failures = Some f' }) → failed → Calls f f' true
 was_refused f f' c badly = record { fails = c.fails.0 badly; behind = same_Some f' (after_keeper_call f) c.after }
 
 -- an answer isn't a fault, and one fault isn't another
@@ -61,7 +61,7 @@ not-memory r failed memory = cc (failed, memory)
 
 -- the call of a commit that gave an id, and of one that the keeper refused
 pub commit_went : {Same went : Type 0} {a a' n n' : ℕ} (r : Result RowId StoreFault) (id : RowId) (f f' : KeeperFailures) → r ≡ Ok id
-    → (Same × ((r ≡ Err store_fault.IdsSpent) ⊎ (r ≡ Err store_fault.OutOfMemory))) ⊎ CallsOnce went (r ≡ Err store_fault.Failed) a a' n n' (Some f) (Some f') → Calls f f' false
+    → (Same × ((r ≡ Err store_fault.IdsSpent) ⊎ (r ≡ Err store_fault.OutOfMemory))) ⊎ CallsOnce went (r ≡ Err store_fault.Failed) (record { faults = a; calls = n; failures = Some f }) (record { faults = a'; calls = n'; failures = Some f' }) → Calls f f' false
 commit_went r id f f' well c =
     elim c [
       | inl none ↦ absurd (elim none.1 [ inl spent ↦ no-fault id r store_fault.IdsSpent well spent | inr memory ↦ no-fault id r store_fault.OutOfMemory well memory ])
@@ -69,7 +69,7 @@ commit_went r id f f' well c =
     ]
 
 pub commit_failed : {Same went : Type 0} {a a' n n' : ℕ} (r : Result RowId StoreFault) (f f' : KeeperFailures) → r ≡ Err store_fault.Failed
-    → (Same × ((r ≡ Err store_fault.IdsSpent) ⊎ (r ≡ Err store_fault.OutOfMemory))) ⊎ CallsOnce went (r ≡ Err store_fault.Failed) a a' n n' (Some f) (Some f') → Calls f f' true
+    → (Same × ((r ≡ Err store_fault.IdsSpent) ⊎ (r ≡ Err store_fault.OutOfMemory))) ⊎ CallsOnce went (r ≡ Err store_fault.Failed) (record { faults = a; calls = n; failures = Some f }) (record { faults = a'; calls = n'; failures = Some f' }) → Calls f f' true
 commit_failed r f f' failed c =
     elim c [
       | inl none ↦ absurd (elim none.1 [ inl spent ↦ not-spent r failed spent | inr memory ↦ not-memory r failed memory ])

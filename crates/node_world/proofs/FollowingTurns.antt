@@ -109,7 +109,7 @@ as-read h t k x e caught_of found missed = record {
 }
 
 -- its call failed where it was missed
-pub read_calls : {a a' n n' : ℕ} (f f' : KeeperFailures) (missed : Bool) → CallsOnce (missed ≡ false) (missed ≡ true) a a' n n' (Some f) (Some f') → Calls f f' missed
+pub read_calls : {a a' n n' : ℕ} (f f' : KeeperFailures) (missed : Bool) → CallsOnce (missed ≡ false) (missed ≡ true) (record { faults = a; calls = n; failures = Some f }) (record { faults = a'; calls = n'; failures = Some f' }) → Calls f f' missed
 read_calls f f' true c = was_refused f f' c refl
 read_calls f f' false c = went_well f f' c (λ e. cc (e))
 

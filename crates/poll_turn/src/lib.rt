@@ -3,9 +3,8 @@
 #![tactic(auto)]
 
 mod cursors;
-mod hashing;
 mod turns;
 
+pub use cable_base::channel_hash;
 pub use cursors::Cursor;
-pub use hashing::channel_hash;
 pub use turns::{Caught, Turn};

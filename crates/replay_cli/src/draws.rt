@@ -67,28 +67,28 @@ impl Draw {
     fn subscribe(&self, alloc: Global) -> Result<Text, OutOfMemory>
         ensures { IfOk result (λ t. t ≡ subscribe_text self.now) }
     {
-        Ok(Text::of(format!(in alloc;
+        Text::of(format!(in alloc;
             "{{\"command\":\"subscribe\",\"identifier\":\"{{\\\"channel\\\":\\\"Chat\\\",\\\"room\\\":{}}}\"}}",
             self.room
-        )?))
+        )?)
     }
 
     fn unsubscribe(&self, alloc: Global) -> Result<Text, OutOfMemory>
         ensures { IfOk result (λ t. t ≡ unsubscribe_text self.now) }
     {
-        Ok(Text::of(format!(in alloc;
+        Text::of(format!(in alloc;
             "{{\"command\":\"unsubscribe\",\"identifier\":\"{{\\\"channel\\\":\\\"Chat\\\",\\\"room\\\":{}}}\"}}",
             self.room
-        )?))
+        )?)
     }
 
     fn speak(&self, alloc: Global) -> Result<Text, OutOfMemory>
         ensures { IfOk result (λ t. t ≡ speak_text self.now) }
     {
-        Ok(Text::of(format!(in alloc;
+        Text::of(format!(in alloc;
             "{{\"command\":\"message\",\"identifier\":\"{{\\\"channel\\\":\\\"Chat\\\",\\\"room\\\":{}}}\",\"data\":\"{{\\\"action\\\":\\\"speak\\\",\\\"i\\\":{}}}\"}}",
             self.room, self.place
-        )?))
+        )?)
     }
 
     fn says(&self, text: Text) -> Verb
@@ -106,8 +106,8 @@ impl Draw {
         requires { self.now.place ≤ most_made }
         ensures { IfOk result (λ v. v ≡ casts self.now) }
     {
-        let channel = Text::of(format!(in alloc; "room_{}", self.room)?);
-        let payload = Text::of(format!(in alloc; "{{\"i\":{}}}", self.place)?);
+        let channel = Text::of(format!(in alloc; "room_{}", self.room)?)?;
+        let payload = Text::of(format!(in alloc; "{{\"i\":{}}}", self.place)?)?;
         Ok(Verb::One {
             event: Event::Cast {
                 at: self.moment(),

@@ -72,7 +72,7 @@ impl Run {
                 NodeNo(2)
             },
             conn: ConnNo(client),
-            token: Text::of(format!(in alloc; "t{}", client)?),
+            token: Text::of(format!(in alloc; "t{}", client)?)?,
         };
         self.work(alloc, &Verb::One { event })
     }

@@ -1,17 +1,15 @@
 -- A hold that was put in its place and is taken away again leaves no trace.
-use Rattle.std.proofs.Common.{◌≡◌, ◌≢◌, ℕ, ◌+◌, ◌==◌, ◌&&◌, ◌||◌, not, cond, Bool, true, false, List, [], ◌∷◌, ◌++◌, Option, Some, None, unwrap_or, get_or, refl, sym, ap, subst, ◌∙◌, arith}
+use Rattle.std.proofs.Common.{◌≡◌, ◌≢◌, ℕ, not, cond, Bool, true, false, List, [], ◌∷◌, ◌++◌, Some, None, unwrap_or, refl, sym, ap, ◌∙◌, arith}
 use Rattle.std.specs.List.{All, filter}
-use Rattle.std.specs.FinMap.{get, insert, remove, get-insert, get-remove}
+use Rattle.std.specs.FinMap.{get, insert, get-insert, get-remove}
 use Rattle.std.specs.Cmp.Lexicographic.{nat_list_cmp_total}
 use Rattle.std.proofs.lemmas.Bool.Decides.{nat_tests}
 use Rattle.std.proofs.lemmas.List.Elements.{All-head, All-tail}
 use Rattle.subscriber_map.specs.declared.holding.Hold.{Hold}
-use Rattle.subscriber_map.specs.declared.mapping.Held.{Held}
 use Rattle.subscriber_map.specs.Holds.{is_before, is_of, AreInOrder, AreHolds, IsNewAmong, with_hold, without}
 use Rattle.subscriber_map.specs.HoldMaps.{HoldMap, holds_at, with_holds_at, with_hold_at, without_at}
-use Rattle.subscriber_map.specs.Entries.{map_of, AreEntries, LiesAt, LiesNowhere}
 use Rattle.subscriber_map.proofs.InOrder.{before-trans, of_not}
-use Rattle.subscriber_map.proofs.ByName.{ties, tied, tied-self, same_maps, get_nowhere, get_there, holds_there-some}
+use Rattle.subscriber_map.proofs.ByName.{ties, tied, tied-self, twice, own, same_maps, with_some}
 
 -- ---- the holds of one name
 
@@ -67,19 +65,11 @@ back-among hold hs h n =
 
 -- ---- the map
 
-twice : {A : Type 0} (b : Bool) (x y z : A) → cond b x (cond b y z) ≡ cond b x z
-twice true x y z = refl
-twice false x y z = refl
-
-own : {A : Type 0} (b : Bool) (x y : A) → (b ≡ true → y ≡ x) → cond b x y ≡ y
-own true x y h = sym (h refl)
-own false x y h = refl
-
 at-inserted : (m : HoldMap) (q : List ℕ) (hs : List Hold) → holds_at (insert m q hs) q ≡ hs
 at-inserted m q hs = ap (λ o. unwrap_or o []) (get-insert nat_list_cmp_total m q hs q ∙ ap (λ b. cond b (Some hs) (get m q)) (tied-self q))
 
-pub back-nowhere : (hold : Hold) (q : List ℕ) (es : List Held) (m : HoldMap) → map_of es ≡ m → LiesNowhere q es → without_at (with_hold_at m q hold) q hold.conn hold.want ≡ m
-back-nowhere hold q es m v l =
+pub back-nowhere : (hold : Hold) (q : List ℕ) (m : HoldMap) → get m q ≡ None → without_at (with_hold_at m q hold) q hold.conn hold.want ≡ m
+back-nowhere hold q m none =
     ap (λ hs. with_holds_at (with_hold_at m q hold) q (without hold.conn hold.want hs)) (at-inserted m q (with_hold hold (holds_at m q)))
     ∙ (ap (λ hs. with_holds_at (with_hold_at m q hold) q (without hold.conn hold.want (with_hold hold hs))) (ap (λ o. unwrap_or o []) none)
     ∙ (ap (λ b. with_holds_at (with_hold_at m q hold) q (cond b (hold ∷ []) [])) (self-of hold)
@@ -87,26 +77,15 @@ back-nowhere hold q es m v l =
     get-remove nat_list_cmp_total (with_hold_at m q hold) q r
     ∙ (ap (cond (ties r q) None) (get-insert nat_list_cmp_total m q (with_hold hold (holds_at m q)) r)
     ∙ (twice (ties r q) None (Some (with_hold hold (holds_at m q))) (get m r) ∙ own (ties r q) None (get m r) (λ t. ap (get m) (tied r q t) ∙ none))))))
+
+pub back-there : (hold : Hold) (q : List ℕ) (m : HoldMap) (hs : List Hold) → get m q ≡ Some hs → hs ≢ [] → without hold.conn hold.want (with_hold hold hs) ≡ hs → without_at (with_hold_at m q hold) q hold.conn hold.want ≡ m
+back-there hold q m hs found held back =
+    ap (λ xs. with_holds_at (with_hold_at m q hold) q (without hold.conn hold.want xs)) (at-inserted m q (with_hold hold (holds_at m q)))
+    ∙ (ap (λ xs. with_holds_at (with_hold_at m q hold) q (without hold.conn hold.want (with_hold hold xs))) (ap (λ o. unwrap_or o []) found)
+    ∙ (ap (with_holds_at (with_hold_at m q hold) q) back ∙ (sym (with_some (with_hold_at m q hold) q hs held) ∙ rewritten)))
   where
-    none : get m q ≡ None
-    none = ap (λ n. get n q) (sym v) ∙ get_nowhere q es l
-
-pub back-there : (hold : Hold) (q : List ℕ) (es : List Held) (i : ℕ) (h : Held) (m : HoldMap) → AreEntries es → map_of es ≡ m → LiesAt q es i → h ≡ get_or es i h
-    → without hold.conn hold.want (with_hold hold h.holds) ≡ h.holds → without_at (with_hold_at m q hold) q hold.conn hold.want ≡ m
-back-there hold q es i h m k v l at back =
-    ap (λ hs. with_holds_at (with_hold_at m q hold) q (without hold.conn hold.want hs)) (at-inserted m q (with_hold hold (holds_at m q)))
-    ∙ (ap (λ hs. with_holds_at (with_hold_at m q hold) q (without hold.conn hold.want (with_hold hold hs))) (ap (λ o. unwrap_or o []) found)
-    ∙ (ap (λ hs. with_holds_at (with_hold_at m q hold) q hs) back ∙ (some h.holds (holds_there-some q es i h k l at) ∙ rewritten)))
-  where
-    found : get m q ≡ Some h.holds
-    found = ap (λ n. get n q) (sym v) ∙ get_there q es i h l at
-
-    some : (hs : List Hold) → hs ≢ [] → with_holds_at (with_hold_at m q hold) q hs ≡ insert (with_hold_at m q hold) q hs
-    some [] n = absurd (n refl)
-    some (x ∷ hs) n = refl
-
-    rewritten : insert (with_hold_at m q hold) q h.holds ≡ m
+    rewritten : insert (with_hold_at m q hold) q hs ≡ m
     rewritten = same_maps _ _ (λ r.
-        get-insert nat_list_cmp_total (with_hold_at m q hold) q h.holds r
-        ∙ (ap (cond (ties r q) (Some h.holds)) (get-insert nat_list_cmp_total m q (with_hold hold (holds_at m q)) r)
-        ∙ (twice (ties r q) (Some h.holds) (Some (with_hold hold (holds_at m q))) (get m r) ∙ own (ties r q) (Some h.holds) (get m r) (λ t. ap (get m) (tied r q t) ∙ found))))
+        get-insert nat_list_cmp_total (with_hold_at m q hold) q hs r
+        ∙ (ap (cond (ties r q) (Some hs)) (get-insert nat_list_cmp_total m q (with_hold hold (holds_at m q)) r)
+        ∙ (twice (ties r q) (Some hs) (Some (with_hold hold (holds_at m q))) (get m r) ∙ own (ties r q) (Some hs) (get m r) (λ t. ap (get m) (tied r q t) ∙ found))))

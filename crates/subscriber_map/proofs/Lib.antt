@@ -1,5 +1,5 @@
 pub mod InOrder
 pub mod ByName
-pub mod NamesInOrder
-pub mod Joined
 pub mod Back
+pub mod Shuffled
+pub mod NamesInOrder

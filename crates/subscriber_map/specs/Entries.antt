@@ -1,37 +1,31 @@
--- The map as a plain list of names, each with its holds.
-use Rattle.std.specs.Prelude.{◌≡◌, ◌≢◌, ℕ, zero, suc, true, false, List, [], ◌∷◌, map}
-use Rattle.std.specs.List.{All}
+-- The names of the code's map, each with its holds and its hash.
+use Rattle.std.specs.Prelude.{◌≡◌, ◌≢◌, ℕ, Bool, List, [], map, String, string_bytes, IfSome}
 use Rattle.std.specs.Str.{bytes_eq}
 use Rattle.std.specs.FinMap.{from_entries}
+use Rattle.std.specs.Map.{keys_of, lookup}
+use Rattle.std.specs.declared.alloc.Global.{Global}
+use Rattle.cable_base.specs.Hash.{channel_hash_of}
 use Rattle.subscriber_map.specs.declared.holding.Hold.{Hold}
 use Rattle.subscriber_map.specs.declared.mapping.Held.{Held}
 use Rattle.subscriber_map.specs.HoldMaps.{HoldMap}
 
-abbrev pub pairs_of : List Held → List (List ℕ × List Hold)
-pairs_of es = map (λ e. (e.name, e.holds)) es
+abbrev pub pairs_of : List (String Global × Held) → List (List ℕ × List Hold)
+pairs_of es = map (λ e. (string_bytes e.0, e.1.holds)) es
 
-abbrev pub names_of : List Held → List (List ℕ)
-names_of es = map (λ e. e.name) es
+abbrev pub names_of : List (String Global × Held) → List (List ℕ)
+names_of es = map string_bytes (keys_of es)
 
-abbrev pub map_of : List Held → HoldMap
+abbrev pub map_of : List (String Global × Held) → HoldMap
 map_of es = from_entries (pairs_of es)
 
--- no name stands twice
-abbrev pub AreDifferent : List Held → Type 0
-AreDifferent [] = Unit {0}
-AreDifferent (e ∷ es) = All (λ x. bytes_eq x.name e.name ≡ false) es × AreDifferent es
+-- the key is this name
+abbrev pub is_named : List ℕ → String Global → Bool
+is_named name key = bytes_eq name (string_bytes key)
 
--- no name stands twice, and none without holds
-pub record AreEntries (es : List Held) : Type 0 where
-  pub different : AreDifferent es
-  pub held : All (λ e. e.holds ≢ []) es
+-- what the map has at a name: some holds, and the name's own hash
+pub record IsHeldAs (name : List ℕ) (h : Held) : Type 0 where
+  pub hash : h.hash ≡ channel_hash_of name
+  pub held : h.holds ≢ []
 
--- the name stands at this place, and at none before it
-abbrev pub LiesAt : List ℕ → List Held → ℕ → Type 0
-LiesAt name [] i = ⊥
-LiesAt name (e ∷ es) zero = bytes_eq e.name name ≡ true
-LiesAt name (e ∷ es) (suc i) = (bytes_eq e.name name ≡ false) × LiesAt name es i
-
--- the name stands nowhere
-abbrev pub LiesNowhere : List ℕ → List Held → Type 0
-LiesNowhere name es = All (λ e. bytes_eq e.name name ≡ false) es
+abbrev pub AreEntries : List (String Global × Held) → Type 0
+AreEntries es = (name : List ℕ) → IfSome (lookup (is_named name) es) (IsHeldAs name)

@@ -1,8 +1,8 @@
 -- The holds of each name, as a map without an order of names.
-use Rattle.std.specs.Prelude.{◌≡◌, ◌<◌, ◌≤◌, ◌+◌, ℕ, List, [], ◌∷◌, refl, IsSome, IsNone, unwrap_or}
+use Rattle.std.specs.Prelude.{ℕ, List, [], ◌∷◌, refl, unwrap_or}
 use Rattle.std.specs.Ordering.{nat_cmp}
 use Rattle.std.specs.Cmp.Lexicographic.{slice_cmp}
-use Rattle.std.specs.FinMap.{FinMap, get, insert, remove, len}
+use Rattle.std.specs.FinMap.{FinMap, get, insert, remove}
 use Rattle.std.specs.FinMap as maps
 use Rattle.std.specs.Coded.{Coded, code_by, coded×, coded_ℕ, coded_list}
 use Rattle.cable_base.specs.declared.numbers.ConnNo.{ConnNo}
@@ -38,9 +38,3 @@ with_hold_at m name hold = insert m name (with_hold hold (holds_at m name))
 -- the map without the hold of a connection's want
 abbrev pub without_at : HoldMap → List ℕ → ConnNo → WantNo → HoldMap
 without_at m name conn want = with_holds_at m name (without conn want (holds_at m name))
-
--- of names in no order at most all are looked at: at least the one that is looked for, and all where it isn't there
-pub record LooksAt (m : HoldMap) (name : List ℕ) (before now : ℕ) : Type 0 where
-  pub most : now ≤ before + len m
-  pub found : IsSome (get m name) → before < now
-  pub missed : IsNone (get m name) → now ≡ before + len m

@@ -72,13 +72,19 @@ is_refused f = fails_next f.planned || f.next
 abbrev pub after_keeper_call : KeeperFailures → KeeperFailures
 after_keeper_call f = record { planned = after_call f.planned; next = false }
 
+-- how many calls failed and how many were made, and which are to fail, where that is told
+pub record KeeperCounts : Type 0 where
+  pub faults : ℕ
+  pub calls : ℕ
+  pub failures : Option KeeperFailures
+
 -- one call of a keeper. Its count of calls rises by one. Its count of faults never falls: it stays where the call goes well, and rises where
 -- it fails. Where it's told which calls are to fail, exactly these do
-pub record CallsOnce (went failed : Type 0) (faults faults' calls calls' : ℕ) (told told' : Option KeeperFailures) : Type 0 where
-  pub counted : calls' ≡ next_count calls
-  pub later : faults ≤ faults'
-  pub calm : went → faults' ≡ faults
-  pub rose : failed → Rose faults faults'
-  pub fails : IfSome told (λ f. failed ↔ (is_refused f ≡ true))
-  pub after : IfSome told (λ f. told' ≡ Some (after_keeper_call f))
-  pub tells : is_some told' ≡ is_some told
+pub record CallsOnce (went failed : Type 0) (old new : KeeperCounts) : Type 0 where
+  pub counted : new.calls ≡ next_count old.calls
+  pub later : old.faults ≤ new.faults
+  pub calm : went → new.faults ≡ old.faults
+  pub rose : failed → Rose old.faults new.faults
+  pub fails : IfSome old.failures (λ f. failed ↔ (is_refused f ≡ true))
+  pub after : IfSome old.failures (λ f. new.failures ≡ Some (after_keeper_call f))
+  pub tells : is_some new.failures ≡ is_some old.failures

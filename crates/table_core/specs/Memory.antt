@@ -1,14 +1,18 @@
 -- A keeper in memory, whose calls can be made to fail.
-use Rattle.std.specs.Prelude.{◌<◌, ◌≤◌, ℕ, true, false, List, [], codes}
+use Rattle.std.specs.Prelude.{◌<◌, ◌≤◌, ℕ, true, false, List, [], Some, codes}
 use Rattle.cable_base.specs.declared.numbers.RowId.{RowId}
 use Rattle.cable_base.specs.declared.rows.Row.{Row}
-use Rattle.table_core.specs.Keepers.{KeeperFailures, most_id}
+use Rattle.table_core.specs.Keepers.{KeeperCounts, KeeperFailures, most_id}
 
 -- its rows, which of its calls are to fail, and how many did
 pub record MemRows : Type 0 where
   pub rows : List Row
   pub failures : KeeperFailures
   pub faults : ℕ
+
+-- its counts, of which it tells which calls are to fail
+abbrev pub mem_counts : MemRows → KeeperCounts
+mem_counts k = record { faults = k.faults; calls = k.failures.planned.calls; failures = Some k.failures }
 
 -- a keeper with these rows, of which these calls are to fail. There was none yet
 abbrev pub mem_rows : List Row → (planned : List ℕ) → MemRows

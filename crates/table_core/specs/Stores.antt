@@ -9,21 +9,19 @@ use Rattle.poll_turn.specs.Notes.{note_in}
 use Rattle.poll_turn.specs.Turns.{CaughtState, TurnState}
 use Rattle.table_core.specs.declared.faults.StoreFault.{StoreFault}
 use Rattle.table_core.specs.declared.faults.StoreFault.TheVariants as store_fault
-use Rattle.table_core.specs.Keepers.{CallsOnce, KeeperFailures, most_id}
+use Rattle.table_core.specs.Keepers.{CallsOnce, KeeperCounts, most_id}
 use Rattle.table_core.specs.Shown.{EntersCommit}
 use Rattle.table_core.specs.Tables.{EndsAt, IsCaughtOf, TableState, read_note}
 
 -- what keepers of a type tell
 pub record Told (K P : Type 0) : Type 0 where
   pub rows : K → Option (List Row)
-  pub faults : K → ℕ
-  pub calls : K → ℕ
-  pub failures : K → Option KeeperFailures
+  pub counts : K → KeeperCounts
   pub place : K → P
 
 -- one call of the keeper, between these two tables
 abbrev pub Calls : {K P : Type 0} → Told K P → (went failed : Type 0) → (old new : TableState K) → Type 0
-Calls t went failed old new = CallsOnce went failed (t.faults old.keeper) (t.faults new.keeper) (t.calls old.keeper) (t.calls new.keeper) (t.failures old.keeper) (t.failures new.keeper)
+Calls t went failed old new = CallsOnce went failed (t.counts old.keeper) (t.counts new.keeper)
 
 -- a commit puts its row behind the others, under the next id, or is refused and leaves the rows and the last id. In the table's journal it's the commit of the one who makes it
 pub record CommitsRow {K P : Type 0} (t : Told K P) (old : TableState K) (from : Origin) (channel payload : List ℕ) (at : ℕ) (result : Result RowId StoreFault) (new : TableState K) : Type 0 where

@@ -1,9 +1,9 @@
-ghost use Rattle.std.specs.Prelude.{◌≡◌, ◌++◌, ◌∷◌, ◌≤◌, [], ℕ, List, take, length, Some, IfOk, IfSome, IsErrOf, IsOk, OnErr, OnOk, is_some};
+ghost use Rattle.std.specs.Prelude.{◌≡◌, ◌++◌, ◌∷◌, ◌≤◌, [], List, take, length, Some, IfOk, IfSome, IsErrOf, IsOk, OnErr, OnOk, is_some};
 ghost use Rattle.std.specs.declared.option.Option.{Option};
 ghost use Rattle.cable_base.specs.declared.rows.Row.{Row};
 ghost use Rattle.poll_turn.specs.Turns.{AreMessages};
 ghost use Rattle.table_core.specs.declared.faults.KeeperFault.TheVariants as keeper_fault;
-ghost use Rattle.table_core.specs.Keepers.{AreRising, CallsOnce, IsNewRow, KeeperFailures, first_before, greatest_id, most_id, sought, without};
+ghost use Rattle.table_core.specs.Keepers.{AreRising, CallsOnce, IsNewRow, KeeperCounts, first_before, greatest_id, most_id, sought, without};
 
 use crate::faults::KeeperFault;
 use cable_base::{Millis, Row, RowId};
@@ -14,14 +14,9 @@ pub trait Keeper {
     /// Its rows, in order, where it tells them.
     ghost rows: { Self → Option (List Row) };
 
-    /// How many calls failed. It never falls.
-    ghost faults: { Self → ℕ };
-
-    /// How many calls were made. Each call raises it by one, unless it stands at its type's end.
-    ghost calls: { Self → ℕ };
-
-    /// Which calls are to fail, where it tells that.
-    ghost failures: { Self → Option KeeperFailures };
+    /// How many calls failed, which never falls; how many were made, which each call raises by one, unless it stands at its type's end; and
+    /// which calls are to fail, where it tells that.
+    ghost counts: { Self → KeeperCounts };
 
     /// What no call changes: for a reference, which one it is.
     ghost Place: { Type 0 } = { Unit {0} };
@@ -34,7 +29,7 @@ pub trait Keeper {
         ensures rising { IfSome (rows self.old) (λ told. OnOk result (AreRising told)) }
         ensures most { IfOk result (λ id. id.0 ≤ most_id) }
         ensures same { rows self.new ≡ rows self.old }
-        ensures call { CallsOnce (IsOk result) (IsErrOf result keeper_fault.Failed) (faults self.old) (faults self.new) (calls self.old) (calls self.new) (failures self.old) (failures self.new) }
+        ensures call { CallsOnce (IsOk result) (IsErrOf result keeper_fault.Failed) (counts self.old) (counts self.new) }
         ensures place { place self.new ≡ place self.old };
 
     /// Puts a row behind the others. Its id is from 1 to 2^63 - 1 and above each id there, its moment is below 2^53, its payload is squeezed
@@ -44,7 +39,7 @@ pub trait Keeper {
         ensures ok { IfSome (rows self.old) (λ told. OnOk result (rows self.new ≡ Some (told ++ row.now ∷ []))) }
         ensures tells { is_some (rows self.new) ≡ is_some (rows self.old) }
         ensures err { OnErr result (rows self.new ≡ rows self.old) }
-        ensures call { CallsOnce (IsOk result) (IsErrOf result keeper_fault.Failed) (faults self.old) (faults self.new) (calls self.old) (calls self.new) (failures self.old) (failures self.new) }
+        ensures call { CallsOnce (IsOk result) (IsErrOf result keeper_fault.Failed) (counts self.old) (counts self.new) }
         ensures place { place self.new ≡ place self.old };
 
     /// The first rows, at most `limit`, with an id above `lower` and a name with one of the hashes. Their payloads are squeezed JSON.
@@ -52,7 +47,7 @@ pub trait Keeper {
         ensures ok { IfSome (rows self.old) (λ told. IfOk result (λ found. found.items ≡ take limit (sought lower.0 hashes.now told))) }
         ensures messages { IfOk result (λ found. AreMessages found.items) }
         ensures same { rows self.new ≡ rows self.old }
-        ensures call { CallsOnce (IsOk result) (IsErrOf result keeper_fault.Failed) (faults self.old) (faults self.new) (calls self.old) (calls self.new) (failures self.old) (failures self.new) }
+        ensures call { CallsOnce (IsOk result) (IsErrOf result keeper_fault.Failed) (counts self.old) (counts self.new) }
         ensures place { place self.new ≡ place self.old };
 
     /// Takes the first rows, at most `limit`, from before a moment and with an id below `below`, and answers how many these are.
@@ -61,7 +56,7 @@ pub trait Keeper {
         ensures count { IfSome (rows self.old) (λ told. IfOk result (λ count. count ≡ length (first_before before.0 below.0 limit told))) }
         ensures tells { is_some (rows self.new) ≡ is_some (rows self.old) }
         ensures err { OnErr result (rows self.new ≡ rows self.old) }
-        ensures call { CallsOnce (IsOk result) (IsErrOf result keeper_fault.Failed) (faults self.old) (faults self.new) (calls self.old) (calls self.new) (failures self.old) (failures self.new) }
+        ensures call { CallsOnce (IsOk result) (IsErrOf result keeper_fault.Failed) (counts self.old) (counts self.new) }
         ensures place { place self.new ≡ place self.old };
 }
 
@@ -71,11 +66,7 @@ impl<K: Keeper> Keeper for &mut K {
 
     ghost rows = { λ k. K.rows k.now };
 
-    ghost faults = { λ k. K.faults k.now };
-
-    ghost calls = { λ k. K.calls k.now };
-
-    ghost failures = { λ k. K.failures k.now };
+    ghost counts = { λ k. K.counts k.now };
 
     ghost Place = { GName };
 

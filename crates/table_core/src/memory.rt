@@ -5,7 +5,7 @@ ghost use Rattle.cable_model.specs.Table.{contains};
 ghost use Rattle.table_core.specs.declared.faults.KeeperFault.TheVariants as keeper_fault;
 ghost use Rattle.table_core.specs.Inside.{AreKept, IsSortedFrom, asked, ends_old, is_taken, left_of, rows_of};
 ghost use Rattle.table_core.specs.Keepers.{CallsOnce, greatest_id, most_id};
-ghost use Rattle.table_core.specs.Memory.{IsRowId, mem_rows, starting_row, told_to_fail};
+ghost use Rattle.table_core.specs.Memory.{IsRowId, mem_counts, mem_rows, starting_row, told_to_fail};
 
 use crate::faults::KeeperFault;
 use crate::keepers::Keeper;
@@ -229,7 +229,7 @@ impl MemKeeper {
     fn call(&mut self) -> Result<(), KeeperFault>
         ensures same { self.new.rows ≡ self.old.rows }
         ensures err { IfErr result (λ fault. fault ≡ keeper_fault.Failed) }
-        ensures call { CallsOnce (IsOk result) (IsErrOf result keeper_fault.Failed) self.old.faults self.new.faults self.old.failures.planned.calls self.new.failures.planned.calls (Some self.old.failures) (Some self.new.failures) }
+        ensures call { CallsOnce (IsOk result) (IsErrOf result keeper_fault.Failed) (mem_counts self.old) (mem_counts self.new) }
     {
         let fails = self.failing.next_fails() || self.fails_next;
         self.fails_next = false;
@@ -246,11 +246,7 @@ impl Keeper for MemKeeper {
 
     ghost rows = { λ k. Some k.rows };
 
-    ghost faults = { λ k. k.faults };
-
-    ghost calls = { λ k. k.failures.planned.calls };
-
-    ghost failures = { λ k. Some k.failures };
+    ghost counts = { λ k. mem_counts k };
 
     ghost place = { λ _. tt };
 

@@ -43,7 +43,8 @@ pub trait Reads {
 impl<K: Keeper> Store for Table<K> {
     ghost use Rattle.table_core.specs.Stores.{CommitsRow};
 
-    ghost commits = { λ old from channel payload at result new. CommitsRow (record { rows = K.rows; faults = K.faults; calls = K.calls; failures = K.failures; place = K.place }) old from channel payload at result new };
+    ghost commits = { λ old from channel payload at result new.
+        CommitsRow (record { rows = K.rows; counts = K.counts; place = K.place }) old from channel payload at result new };
 
     fn commit(
         &mut self,
@@ -59,7 +60,7 @@ impl<K: Keeper> Store for Table<K> {
 impl<K: Keeper> Reads for Table<K> {
     ghost use Rattle.table_core.specs.Stores.{ReadsTurn};
 
-    ghost reads = { λ old turn result new. ReadsTurn (record { rows = K.rows; faults = K.faults; calls = K.calls; failures = K.failures; place = K.place }) old turn result new };
+    ghost reads = { λ old turn result new. ReadsTurn (record { rows = K.rows; counts = K.counts; place = K.place }) old turn result new };
 
     fn read(&mut self, turn: Turn) -> Result<Caught, Turn> {
         Table::read(self, turn)

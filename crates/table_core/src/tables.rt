@@ -1,4 +1,5 @@
-ghost use Rattle.std.specs.Prelude.{◌≡◌, ◌≢◌, ◌⊎◌, ◌↔◌, ◌+◌, ◌++◌, ◌∷◌, ◌≤◌, [], true, false, ⊤, Some, length, IfErr, IfOk, IfSome, IsErrOf, IsOk, IsOkAnd, MatchResult, OnErr, OnOk, is_some};
+ghost use Rattle.std.specs.Prelude.{◌≡◌, ◌≢◌, ◌⊎◌, ◌↔◌, ◌+◌, ◌++◌, ◌∷◌, ◌≤◌, [], true, false, ⊤, Some, length};
+ghost use Rattle.std.specs.Prelude.{IfErr, IfOk, IfSome, IsErrOf, IsOk, IsOkAnd, MatchResult, OnErr, OnOk, is_some};
 ghost use Rattle.cable_base.specs.Causes.{Rose};
 ghost use Rattle.cable_base.specs.Memory.{next_count};
 ghost use Rattle.cable_model.specs.Journal.{offer_in};
@@ -23,8 +24,8 @@ use std::marker::Model;
 /// The greatest id that a row can have.
 const MOST_ID: u64 = (1 << 63) - 1;
 
-/// How many rows a read gives at most: as many as there are, until reads are paged.
-const PAGE_ROWS: u64 = u64::MAX;
+/// How many rows a read fetches at most.
+const PAGE_ROWS: u64 = 1_000;
 
 /// The table of all nodes. Its ids go on from the last one that its keeper had, each one above the one before, and it alone writes to
 /// its keeper.
@@ -87,8 +88,8 @@ impl<K: Keeper> Table<K> {
         ensures last { IfSome (K.rows keeper) (λ told. IfOk result (λ table. table.last.0 ≡ greatest_id told)) }
         ensures same { MatchResult result (λ table. K.rows table.keeper ≡ K.rows keeper) (λ refused. K.rows refused.keeper ≡ K.rows keeper) }
         ensures place { MatchResult result (λ table. K.place table.keeper ≡ K.place keeper) (λ refused. K.place refused.keeper ≡ K.place keeper) }
-        ensures ok { IfOk result (λ table. CallsOnce ⊤ ⊥ (K.faults keeper) (K.faults table.keeper) (K.calls keeper) (K.calls table.keeper) (K.failures keeper) (K.failures table.keeper)) }
-        ensures err { IfErr result (λ refused. CallsOnce ⊥ (refused.fault ≡ store_fault.Failed) (K.faults keeper) (K.faults refused.keeper) (K.calls keeper) (K.calls refused.keeper) (K.failures keeper) (K.failures refused.keeper)) }
+        ensures ok { IfOk result (λ table. CallsOnce ⊤ ⊥ (K.counts keeper) (K.counts table.keeper)) }
+        ensures err { IfErr result (λ refused. CallsOnce ⊥ (refused.fault ≡ store_fault.Failed) (K.counts keeper) (K.counts refused.keeper)) }
         ensures fault { IfErr result (λ refused. refused.fault ≢ store_fault.IdsSpent) }
     {
         let mut keeper = keeper;
@@ -142,14 +143,16 @@ impl<K: Keeper> Table<K> {
         requires { IsWithinLimits channel.now payload.now at.0 }
         ensures next { IfOk result (λ id. id.0 ≡ self.old.last.0 + 1) }
         ensures last { IfOk result (λ id. self.new.last ≡ id) }
-        ensures row { IfSome (K.rows self.old.keeper) (λ told. IfOk result (λ id. K.rows self.new.keeper ≡ Some (told ++ row_with id.0 (offer_in channel.now payload.now at.0) ∷ []))) }
-        ensures entry { EntersCommit from channel.now payload.now at.0 result (K.rows self.old.keeper) (K.rows self.new.keeper) self.old.last.0 self.new.last.0 }
+        ensures row { IfSome (K.rows self.old.keeper) (λ told.
+            IfOk result (λ id. K.rows self.new.keeper ≡ Some (told ++ row_with id.0 (offer_in channel.now payload.now at.0) ∷ []))) }
+        ensures entry { EntersCommit from channel.now payload.now at.0 result
+            (K.rows self.old.keeper) (K.rows self.new.keeper) self.old.last.0 self.new.last.0 }
         ensures tells { is_some (K.rows self.new.keeper) ≡ is_some (K.rows self.old.keeper) }
         ensures err { OnErr result ((K.rows self.new.keeper ≡ K.rows self.old.keeper) × (self.new.last ≡ self.old.last)) }
         ensures spent { IsErrOf result store_fault.IdsSpent ↔ (self.old.last.0 ≡ most_id) }
         ensures idle { IsErrOf result store_fault.IdsSpent → self.new ≡ self.old }
         ensures call { (self.new ≡ self.old) × (IsErrOf result store_fault.IdsSpent ⊎ IsErrOf result store_fault.OutOfMemory)
-            ⊎ CallsOnce (IsOk result) (IsErrOf result store_fault.Failed) (K.faults self.old.keeper) (K.faults self.new.keeper) (K.calls self.old.keeper) (K.calls self.new.keeper) (K.failures self.old.keeper) (K.failures self.new.keeper) }
+            ⊎ CallsOnce (IsOk result) (IsErrOf result store_fault.Failed) (K.counts self.old.keeper) (K.counts self.new.keeper) }
         ensures place { K.place self.new.keeper ≡ K.place self.old.keeper }
     {
         if self.last.0 == MOST_ID {
@@ -165,12 +168,14 @@ impl<K: Keeper> Table<K> {
     /// Reads what a turn asks for: the rows above its `lower` whose names have one of its hashes, up to a page of them. It makes one call
     /// of the keeper. Where that fails, the turn is missed. Where memory is wanted, the turn is handed back.
     pub fn read(&mut self, turn: Turn) -> Result<Caught, Turn>
-        ensures found { IfSome (K.rows self.old.keeper) (λ told. IfOk result (λ caught. caught.is_missed ≡ false → note_in caught ≡ read_note turn.lower.0 self.old.last.0 turn.hashes told)) }
+        ensures found { IfSome (K.rows self.old.keeper) (λ told.
+            IfOk result (λ caught. caught.is_missed ≡ false → note_in caught ≡ read_note turn.lower.0 self.old.last.0 turn.hashes told)) }
         ensures missed { IfOk result (λ caught. caught.is_missed ≡ true → note_in caught ≡ missed_note turn.lower.0) }
         ensures end { IfOk result (λ caught. caught.is_missed ≡ false → EndsAt self.old.last caught) }
         ensures turn { MatchResult result (IsCaughtOf turn) (λ back. back ≡ turn) }
         ensures same { (K.rows self.new.keeper ≡ K.rows self.old.keeper) × (self.new.last ≡ self.old.last) }
-        ensures call { CallsOnce (IsOkAnd result (λ caught. caught.is_missed ≡ false)) (IsOkAnd result (λ caught. caught.is_missed ≡ true)) (K.faults self.old.keeper) (K.faults self.new.keeper) (K.calls self.old.keeper) (K.calls self.new.keeper) (K.failures self.old.keeper) (K.failures self.new.keeper) }
+        ensures call { CallsOnce (IsOkAnd result (λ caught. caught.is_missed ≡ false)) (IsOkAnd result (λ caught. caught.is_missed ≡ true))
+            (K.counts self.old.keeper) (K.counts self.new.keeper) }
         ensures place { K.place self.new.keeper ≡ K.place self.old.keeper }
     {
         let rows = match self.keeper.fetch(turn.lower(), turn.hashes(), PAGE_ROWS) {
@@ -185,13 +190,14 @@ impl<K: Keeper> Table<K> {
     /// Takes the first rows by id, at most `batch`, that are older than the retention at this moment. The newest row stays. It answers how
     /// many were taken. It makes one call of the keeper, and is never refused as `IdsSpent`.
     pub fn trim(&mut self, now: Millis, retention: Millis, batch: u64) -> Result<u64, StoreFault>
-        ensures ok { IfSome (K.rows self.old.keeper) (λ told. OnOk result (K.rows self.new.keeper ≡ Some (without (oldest now.0 retention.0 batch self.old.last.0 told) told))) }
+        ensures ok { IfSome (K.rows self.old.keeper) (λ told.
+            OnOk result (K.rows self.new.keeper ≡ Some (without (oldest now.0 retention.0 batch self.old.last.0 told) told))) }
         ensures count { IfSome (K.rows self.old.keeper) (λ told. IfOk result (λ count. count ≡ length (oldest now.0 retention.0 batch self.old.last.0 told))) }
         ensures tells { is_some (K.rows self.new.keeper) ≡ is_some (K.rows self.old.keeper) }
         ensures err { OnErr result (K.rows self.new.keeper ≡ K.rows self.old.keeper) }
         ensures last { self.new.last ≡ self.old.last }
         ensures fault { IfErr result (λ fault. fault ≢ store_fault.IdsSpent) }
-        ensures call { CallsOnce (IsOk result) (IsErrOf result store_fault.Failed) (K.faults self.old.keeper) (K.faults self.new.keeper) (K.calls self.old.keeper) (K.calls self.new.keeper) (K.failures self.old.keeper) (K.failures self.new.keeper) }
+        ensures call { CallsOnce (IsOk result) (IsErrOf result store_fault.Failed) (K.counts self.old.keeper) (K.counts self.new.keeper) }
         ensures place { K.place self.new.keeper ≡ K.place self.old.keeper }
     {
         // What is older than the retention was committed before this moment.

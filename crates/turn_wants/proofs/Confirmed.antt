@@ -1,7 +1,7 @@
 -- The confirmations that are due with the wants that the turn takes are those that the journal says.
-use Rattle.std.proofs.Common.{ℕ, suc, ◌+◌, ◌≡◌, ◌≤◌, ◌<◌, ◌==◌, ◌&&◌, ◌||◌, Bool, true, false, cond, List, [], ◌∷◌, ◌++◌, length, map, take, drop, Some, None, Option, refl, ap, sym, subst, ◌∙◌, arith, is_none, is_some}
+use Rattle.std.proofs.Common.{ℕ, suc, ◌+◌, ◌≡◌, ◌≤◌, ◌<◌, ◌==◌, ◌&&◌, ◌||◌, Bool, true, false, cond, List, [], ◌∷◌, ◌++◌, length, map, take, Some, None, Option, refl, ap, sym, subst, ◌∙◌, arith, is_none, is_some}
 use Rattle.std.specs.Prelude.{leb, ltb}
-use Rattle.std.specs.List.{list_any, AllByRecursion, filter}
+use Rattle.std.specs.List.{list_any, AllByRecursion}
 use Rattle.std.proofs.lemmas.Bool.{leb-true}
 use Rattle.std.proofs.lemmas.Bool.Decides.{nat_tests}
 use Rattle.std.proofs.lemmas.List.{append-nil}
@@ -16,22 +16,21 @@ use Rattle.cable_model.specs.Possible.{is_out}
 use Rattle.cable_model.specs.Steps.{Step}
 use Rattle.cable_model.specs.Wants.{Mark, mark_of, marks, turn_mark, user_of, made, at_ask}
 use Rattle.conn_core.specs.Marked.{Marks, marked_sub}
-use Rattle.conn_core.specs.Subscriptions.{Subscription, has_number}
+use Rattle.conn_core.specs.Subscriptions.{has_number}
 use Rattle.conn_seat.specs.Seated.{marks_at}
 use Rattle.conn_seat.specs.Seats.{Seated}
 use Rattle.node_seats.specs.AreSeats.{AreSeats}
-use Rattle.node_seats.specs.declared.opened.Opened.{Opened}
 use Rattle.node_seats.specs.declared.opened.Opened.TheVariants as kept
 use Rattle.node_seats.specs.declared.turning.Delivery.{Delivery}
 use Rattle.node_seats.specs.declared.turning.Wanted.{Wanted}
 use Rattle.node_seats.specs.Numbers.{Numbers, opened_at, seat_at, seat_in}
-use Rattle.node_seats.specs.Turned.{pieces_for, is_for, wanted_by, is_by}
+use Rattle.node_seats.specs.Turned.{pieces_for, wanted_by}
 use Rattle.turn_wants.specs.Wants.{confirms_of, stands_in}
 use Rattle.turn_wants.specs.Wished.{AreWished, taken_count, found_made, wants_of}
 use Rattle.cable_model.proofs.Holding.{marks-at_ask}
 use Rattle.turn_wants.proofs.Counted.{userless-mark, legal-at_ask, wants-length, count-last, count-within}
-use Rattle.turn_wants.proofs.Owned.{NumberedFrom, Owns, Owned, owned, is_due, DuesFrom, dues_of, dues-from, one-due}
-use Rattle.turn_wants.proofs.Placing.{Found, found, none-found}
+use Rattle.turn_wants.proofs.Owned.{NumberedFrom, Owns, owned, is_due, DuesFrom, dues_of, one-due}
+use Rattle.turn_wants.proofs.Placing.{found, none-found}
 
 -- ---- the confirmations of one connection
 
@@ -191,15 +190,7 @@ seens c (Step.Deliver turn note ∷ past) l = go (user_of c (at_ask past)) refl 
         let before : taken_count (marks c past) ≤ length (wants_of c (at_ask past)) = subst (λ ms. taken_count ms ≤ length (wants_of c (at_ask past))) (sym (marks-at_ask c past l.0.0)) (count-within c (at_ask past) (legal-at_ask past l.1)) in
         let most : taken_count (marks c past) ≤ suc (made c (at_ask past)) = omega (arith, before, found_is) in
         rw (mark, count) (All-append (λ (m : Mark). suc m.seen ≤ suc (made c (at_ask past))) (marks c past) (t ∷ []) (All-implied (λ (m : Mark). suc m.seen ≤ taken_count (marks c past)) (λ (m : Mark). suc m.seen ≤ suc (made c (at_ask past))) (marks c past) (λ m g. omega (arith, g, most)) ih) (omega arith, tt))
-seens c (Step.Open d token user ∷ past) l = seens c past l.1
-seens c (Step.Finish d puts plan ∷ past) l = seens c past l.1
-seens c (Step.Ask turn ∷ past) l = seens c past l.1
-seens c (Step.Boot last ∷ past) l = seens c past l.1
-seens c (Step.In d text ∷ past) l = seens c past l.1
-seens c (Step.Drop d ∷ past) l = seens c past l.1
-seens c (Step.Stop ∷ past) l = seens c past l.1
-seens c (Step.Take d ∷ past) l = seens c past l.1
-seens c (Step.Beat now ∷ past) l = seens c past l.1
+seens c (_ ∷ past) l = seens c past l.1
 
 takes-due : (ms : List Mark) (t : Mark) (o : Option ℕ) → AllByRecursion (λ (m : Mark). suc m.seen ≤ taken_count ms) ms → takes_now ms (t ∷ []) o ≡ due_within (taken_count ms) (suc t.seen) o
 takes-due ms t None h = refl

@@ -1,5 +1,5 @@
 -- How many wants a connection ever made, and how many of them turns took.
-use Rattle.std.proofs.Common.{ℕ, suc, ◌+◌, ◌≡◌, ◌≤◌, ◌==◌, Bool, true, false, cond, List, [], ◌∷◌, ◌++◌, length, length-append, drop, Some, None, Option, refl, ap, sym, subst, ◌∙◌, arith}
+use Rattle.std.proofs.Common.{ℕ, suc, ◌+◌, ◌≡◌, ◌≤◌, ◌==◌, Bool, true, false, cond, List, [], ◌∷◌, ◌++◌, length, length-append, Some, None, Option, refl, ap, sym, subst, ◌∙◌, arith}
 use Rattle.std.proofs.lemmas.List.{append-nil, append_assoc}
 use Rattle.std.proofs.lemmas.Bool.Decides.{nat_tests}
 use Rattle.cable_base.specs.declared.numbers.RowId.{RowId}
@@ -10,14 +10,14 @@ use Rattle.cable_model.specs.declared.plans.Change.TheVariants as change
 use Rattle.cable_model.specs.declared.plans.Plan.{Plan}
 use Rattle.cable_model.specs.Legal.{Legal}
 use Rattle.cable_model.specs.Pieces.{seat, Seat}
-use Rattle.cable_model.specs.Possible.{is_opened, is_out, can_open}
+use Rattle.cable_model.specs.Possible.{can_open}
 use Rattle.cable_model.specs.Steps.{Step}
 use Rattle.cable_model.specs.Wants.{Mark, marks, marked, turn_mark, user_of, made, makes, at_ask}
 use Rattle.cable_model.proofs.JobsStay.{unopened-user, new-number, userless-seat}
 use Rattle.cable_model.proofs.Marks.{made-conn}
 use Rattle.cable_model.proofs.Stored.{HasPlan, has-plan}
 use Rattle.node_seats.specs.declared.turning.Wanted.{Wanted}
-use Rattle.turn_wants.specs.Wished.{wanted_as, wanted_above, wanted_with, number_named, own_wanted, wants_of, taken_count}
+use Rattle.turn_wants.specs.Wished.{wanted_above, wanted_with, number_named, own_wanted, wants_of, taken_count}
 
 -- ---- a connection without a user
 
@@ -41,41 +41,18 @@ userless-before c (Step.Open d token user) past l u = go (d == c) refl
     go : (b : Bool) → (d == c) ≡ b → user_of c past ≡ None
     go true b = fresh-user c d token user past l b
     go false b = ap (λ x. cond x user (user_of c past)) (sym b) ∙ u
-userless-before c (Step.Boot last) past l u = u
-userless-before c (Step.In d text) past l u = u
-userless-before c (Step.Drop d) past l u = u
-userless-before c Step.Stop past l u = u
-userless-before c (Step.Take d) past l u = u
-userless-before c (Step.Finish d puts plan) past l u = u
-userless-before c (Step.Ask turn) past l u = u
-userless-before c (Step.Deliver turn note) past l u = u
-userless-before c (Step.Beat now) past l u = u
+userless-before c _ past l u = u
 
 pub userless-at_ask : (c : ℕ) (past : List Step) → Legal past → user_of c past ≡ None → user_of c (at_ask past) ≡ None
 userless-at_ask c [] l u = u
 userless-at_ask c (Step.Ask turn ∷ past) l u = u
 userless-at_ask c (Step.Open d token user ∷ past) l u = userless-at_ask c past l.1 (userless-before c (Step.Open d token user) past l u)
-userless-at_ask c (Step.Boot last ∷ past) l u = userless-at_ask c past l.1 u
-userless-at_ask c (Step.In d text ∷ past) l u = userless-at_ask c past l.1 u
-userless-at_ask c (Step.Drop d ∷ past) l u = userless-at_ask c past l.1 u
-userless-at_ask c (Step.Stop ∷ past) l u = userless-at_ask c past l.1 u
-userless-at_ask c (Step.Take d ∷ past) l u = userless-at_ask c past l.1 u
-userless-at_ask c (Step.Finish d puts plan ∷ past) l u = userless-at_ask c past l.1 u
-userless-at_ask c (Step.Deliver turn note ∷ past) l u = userless-at_ask c past l.1 u
-userless-at_ask c (Step.Beat now ∷ past) l u = userless-at_ask c past l.1 u
+userless-at_ask c (_ ∷ past) l u = userless-at_ask c past l.1 u
 
 pub legal-at_ask : (past : List Step) → Legal past → Legal (at_ask past)
 legal-at_ask [] l = l
 legal-at_ask (Step.Ask turn ∷ past) l = l.1
-legal-at_ask (Step.Open d token user ∷ past) l = legal-at_ask past l.1
-legal-at_ask (Step.Boot last ∷ past) l = legal-at_ask past l.1
-legal-at_ask (Step.In d text ∷ past) l = legal-at_ask past l.1
-legal-at_ask (Step.Drop d ∷ past) l = legal-at_ask past l.1
-legal-at_ask (Step.Stop ∷ past) l = legal-at_ask past l.1
-legal-at_ask (Step.Take d ∷ past) l = legal-at_ask past l.1
-legal-at_ask (Step.Finish d puts plan ∷ past) l = legal-at_ask past l.1
-legal-at_ask (Step.Deliver turn note ∷ past) l = legal-at_ask past l.1
-legal-at_ask (Step.Beat now ∷ past) l = legal-at_ask past l.1
+legal-at_ask (_ ∷ past) l = legal-at_ask past l.1
 
 pub userless-mark : (c : ℕ) (note : ReadNote) (past : List Step) → user_of c (at_ask past) ≡ None → turn_mark c note past ≡ []
 userless-mark c note past u = ap (λ o. marked o (made c (at_ask past)) note) u
@@ -87,14 +64,7 @@ userless-marks c (Step.Deliver turn note ∷ past) l u =
     let none = userless-mark c note past (userless-at_ask c past l.1 u) in
     ap (λ ms. ms ++ turn_mark c note past) earlier ∙ none
 userless-marks c (Step.Open d token user ∷ past) l u = userless-marks c past l.1 (userless-before c (Step.Open d token user) past l u)
-userless-marks c (Step.Ask turn ∷ past) l u = userless-marks c past l.1 u
-userless-marks c (Step.Boot last ∷ past) l u = userless-marks c past l.1 u
-userless-marks c (Step.In d text ∷ past) l u = userless-marks c past l.1 u
-userless-marks c (Step.Drop d ∷ past) l u = userless-marks c past l.1 u
-userless-marks c (Step.Stop ∷ past) l u = userless-marks c past l.1 u
-userless-marks c (Step.Take d ∷ past) l u = userless-marks c past l.1 u
-userless-marks c (Step.Finish d puts plan ∷ past) l u = userless-marks c past l.1 u
-userless-marks c (Step.Beat now ∷ past) l u = userless-marks c past l.1 u
+userless-marks c (_ ∷ past) l u = userless-marks c past l.1 u
 
 pub userless-wants : (c : ℕ) (past : List Step) → Legal past → user_of c past ≡ None → wants_of c past ≡ []
 userless-wants c [] l u = refl
@@ -108,14 +78,7 @@ userless-wants c (Step.Finish d puts plan ∷ past) l u = go (d == c) refl (user
     go : (b : Bool) → (d == c) ≡ b → wants_of c past ≡ [] → wants_of c (Step.Finish d puts plan ∷ past) ≡ []
     go true b ih = let opened = (finish-user c d puts plan past l b).1 in absurd (cc (opened, u))
     go false b ih = rw b ih
-userless-wants c (Step.Deliver turn note ∷ past) l u = userless-wants c past l.1 u
-userless-wants c (Step.Ask turn ∷ past) l u = userless-wants c past l.1 u
-userless-wants c (Step.Boot last ∷ past) l u = userless-wants c past l.1 u
-userless-wants c (Step.In d text ∷ past) l u = userless-wants c past l.1 u
-userless-wants c (Step.Drop d ∷ past) l u = userless-wants c past l.1 u
-userless-wants c (Step.Stop ∷ past) l u = userless-wants c past l.1 u
-userless-wants c (Step.Take d ∷ past) l u = userless-wants c past l.1 u
-userless-wants c (Step.Beat now ∷ past) l u = userless-wants c past l.1 u
+userless-wants c (_ ∷ past) l u = userless-wants c past l.1 u
 
 pub userless-made : (c : ℕ) (past : List Step) → Legal past → user_of c past ≡ None → made c past ≡ 0
 userless-made c past l u = sym (made-conn c past) ∙ ap (λ (s : Seat). s.conn.made) (userless-seat c past l u)
@@ -127,11 +90,9 @@ length-above c s n confirms [] = refl
 length-above c s n confirms (name ∷ names) = ap suc (length-above c s (n + 1) false names)
 
 pub length-with : (c place n : ℕ) (subs : List Sub) (x : Change) → length (wanted_with c place n subs x) ≡ makes x
-length-with c place n subs change.Nothing = refl
 length-with c place n subs (change.Add identifier streams) = length-above c place n true streams
 length-with c place n subs (change.Streams identifier stops streams) = length-above c (number_named identifier subs) n false streams
-length-with c place n subs (change.Remove identifier) = refl
-length-with c place n subs change.Close = refl
+length-with c place n subs _ = refl
 
 -- a connection with a user made its own want, and those that its Finishes made
 pub wants-length : (c : ℕ) (user : List ℕ) (past : List Step) → Legal past → user_of c past ≡ Some user → length (wants_of c past) ≡ suc (made c past)
@@ -153,14 +114,7 @@ wants-length c user (Step.Finish d puts plan ∷ past) l u = go (d == c) refl (w
         let both : length (wants_of c past ++ new) ≡ length (wants_of c past) + length new = length-append (wants_of c past) new in
         rw b (omega (arith, both, more, ih))
     go false b ih = rw b ih
-wants-length c user (Step.Deliver turn note ∷ past) l u = wants-length c user past l.1 u
-wants-length c user (Step.Ask turn ∷ past) l u = wants-length c user past l.1 u
-wants-length c user (Step.Boot last ∷ past) l u = wants-length c user past l.1 u
-wants-length c user (Step.In d text ∷ past) l u = wants-length c user past l.1 u
-wants-length c user (Step.Drop d ∷ past) l u = wants-length c user past l.1 u
-wants-length c user (Step.Stop ∷ past) l u = wants-length c user past l.1 u
-wants-length c user (Step.Take d ∷ past) l u = wants-length c user past l.1 u
-wants-length c user (Step.Beat now ∷ past) l u = wants-length c user past l.1 u
+wants-length c user (_ ∷ past) l u = wants-length c user past l.1 u
 
 -- ---- since the Ask
 
@@ -184,13 +138,7 @@ wants-since c (Step.Finish d puts plan ∷ past) l = go (d == c) refl (wants-sin
         let new = wanted_with c (seat c past).taken (made c past) (seat c past).conn.subs plan.change in
         (ih.0 ++ new, rw b (ap (λ ws. ws ++ new) ih.1 ∙ append_assoc (wants_of c (at_ask past)) ih.0 new))
     go false b ih = (ih.0, rw b ih.1)
-wants-since c (Step.Deliver turn note ∷ past) l = wants-since c past l.1
-wants-since c (Step.Boot last ∷ past) l = wants-since c past l.1
-wants-since c (Step.In d text ∷ past) l = wants-since c past l.1
-wants-since c (Step.Drop d ∷ past) l = wants-since c past l.1
-wants-since c (Step.Stop ∷ past) l = wants-since c past l.1
-wants-since c (Step.Take d ∷ past) l = wants-since c past l.1
-wants-since c (Step.Beat now ∷ past) l = wants-since c past l.1
+wants-since c (_ ∷ past) l = wants-since c past l.1
 
 -- ---- how many were taken
 
@@ -228,10 +176,4 @@ count-within c (Step.Finish d puts plan ∷ past) l = go (d == c) refl (count-wi
         let both : length (wants_of c past ++ new) ≡ length (wants_of c past) + length new = length-append (wants_of c past) new in
         rw b (omega (arith, both, ih))
     go false b ih = rw b ih
-count-within c (Step.Ask turn ∷ past) l = count-within c past l.1
-count-within c (Step.Boot last ∷ past) l = count-within c past l.1
-count-within c (Step.In d text ∷ past) l = count-within c past l.1
-count-within c (Step.Drop d ∷ past) l = count-within c past l.1
-count-within c (Step.Stop ∷ past) l = count-within c past l.1
-count-within c (Step.Take d ∷ past) l = count-within c past l.1
-count-within c (Step.Beat now ∷ past) l = count-within c past l.1
+count-within c (_ ∷ past) l = count-within c past l.1

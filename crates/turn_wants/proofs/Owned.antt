@@ -1,5 +1,5 @@
 -- Each want that stands is one of those that were made, under its number and of its subscription, and so is each confirmation that is due.
-use Rattle.std.proofs.Common.{ℕ, suc, ◌+◌, ◌≡◌, ◌≤◌, ◌<◌, ◌==◌, Bool, true, false, cond, not, List, [], ◌∷◌, ◌++◌, length, map, Some, None, Option, refl, ap, sym, subst, ◌∙◌, arith, bytes_eq, is_some}
+use Rattle.std.proofs.Common.{ℕ, suc, ◌+◌, ◌≡◌, ◌≤◌, ◌<◌, ◌==◌, Bool, true, false, cond, not, List, [], ◌∷◌, ◌++◌, length, map, Some, None, Option, refl, ap, sym, subst, ◌∙◌, arith, bytes_eq}
 use Rattle.cable_model.specs.declared.notes.Note.TheVariants as note
 use Rattle.std.specs.Prelude.{⊤, Result, Ok, Err, find, leb}
 use Rattle.std.specs.List.{list_any, AllByRecursion, filter}
@@ -9,9 +9,7 @@ use Rattle.std.proofs.lemmas.Slice.Eq.{bytes_eq-Decides}
 use Rattle.cable_base.proofs.Each.{All-append, All-filter, All-implied}
 use Rattle.cable_base.proofs.Rises.{Rises, Rises-within}
 use Rattle.cable_base.specs.declared.numbers.RowId.{RowId}
-use Rattle.cable_json.specs.Commands.{command_of}
 use Rattle.cable_json.specs.declared.commands.Command.TheVariants as command
-use Rattle.cable_json.specs.declared.commands.CommandFault.{CommandFault}
 use Rattle.cable_json.specs.declared.commands.CommandFault.TheVariants as command_fault
 use Rattle.channel_book.specs.declared.answers.Answer.{Answer}
 use Rattle.channel_book.specs.declared.answers.CallFault.{CallFault}
@@ -21,27 +19,27 @@ use Rattle.cable_model.specs.declared.pieces.Piece.TheVariants as piece
 use Rattle.cable_model.specs.declared.plans.Change.{Change}
 use Rattle.cable_model.specs.declared.plans.Change.TheVariants as change
 use Rattle.cable_model.specs.declared.plans.Plan.{Plan}
-use Rattle.cable_model.specs.declared.plans.Task.{Task}
 use Rattle.cable_model.specs.declared.plans.Task.TheVariants as task
 use Rattle.cable_model.specs.Connection.{Want, Sub, Conn, wanted, first_above, among, without, streamed, changed}
 use Rattle.cable_model.specs.Legal.{Legal, stored_plans}
 use Rattle.cable_model.specs.Limits.{most_subscriptions}
-use Rattle.cable_model.specs.Pieces.{Seat, seat, with_put, with_all, with_job, with_plan, deliver_puts}
-use Rattle.cable_model.specs.Plans.{Callbacks, stream_notes, rejection, unless_bad, subscribe_plan, perform_plan, plan_for, task_of, sub_named, subscribe_task, unsubscribe_task, perform_task, row_task, confirm_task, fault_task}
+use Rattle.cable_model.specs.Pieces.{seat}
+use Rattle.cable_model.specs.Plans.{Callbacks, stream_notes, rejection, unless_bad, subscribe_plan, perform_plan, plan_for, task_of, sub_named, subscribe_task, unsubscribe_task, perform_task, row_task, confirm_task}
 use Rattle.cable_model.specs.Possible.{has_job}
 use Rattle.cable_model.specs.Steps.{Step}
-use Rattle.cable_model.specs.Wants.{made, marks, turn_mark, user_of}
+use Rattle.cable_model.specs.Wants.{made}
 use Rattle.cable_model.specs.Window.{finished}
+use Rattle.cable_model.proofs.Entries.{unfinished}
 use Rattle.cable_model.proofs.Dues.{Dues, DueOk, fold-dues}
 use Rattle.cable_model.proofs.Inbox.{valid-at}
 use Rattle.cable_model.proofs.JobsStay.{userless-seat}
 use Rattle.cable_model.proofs.Marks.{made-conn}
 use Rattle.cable_model.proofs.Stored.{HasPlan, has-plan, stored-works}
-use Rattle.cable_model.proofs.Valid.{Valid, fresh-valid}
-use Rattle.cable_model.proofs.Working.{Working, working}
+use Rattle.cable_model.proofs.Valid.{fresh-valid}
+use Rattle.cable_model.proofs.Working.{working}
 use Rattle.node_seats.specs.declared.turning.Wanted.{Wanted}
 use Rattle.turn_wants.specs.Wished.{wanted_as, wanted_above, wanted_with, number_named, own_wanted, wants_of}
-use Rattle.turn_wants.proofs.Counted.{fresh-user, finish-user, userless-wants, wants-length, length-with}
+use Rattle.turn_wants.proofs.Counted.{fresh-user, wants-length}
 
 -- ---- wants are numbered as they are made
 
@@ -62,11 +60,9 @@ numbered-above c s n confirms (name ∷ names) =
     (e, subst (λ m. NumberedFrom (suc m) (wanted_above c s (n + 1) false names)) e (numbered-above c s (n + 1) false names))
 
 numbered-with : (c place n : ℕ) (subs : List Sub) (x : Change) → NumberedFrom (suc n) (wanted_with c place n subs x)
-numbered-with c place n subs change.Nothing = tt
 numbered-with c place n subs (change.Add identifier streams) = numbered-above c place n true streams
 numbered-with c place n subs (change.Streams identifier stops streams) = numbered-above c (number_named identifier subs) n false streams
-numbered-with c place n subs (change.Remove identifier) = tt
-numbered-with c place n subs change.Close = tt
+numbered-with c place n subs _ = tt
 
 -- ---- a want and a subscription
 
@@ -283,20 +279,15 @@ streamed-each c s n done identifier stops streams (name ∷ names) k l h b =
 
 new-owns : (c : ℕ) (ch : Change) (place done : ℕ) (k : Conn) → done < place → IdentifiersApart k.subs → AllByRecursion (Bounds k done) k.subs
     → AllByRecursion (λ (y : Wanted). AllByRecursion (Owns y) (changed ch place k).subs) (wanted_with c place k.made k.subs ch)
-new-owns c change.Nothing place done k p a b = tt
 new-owns c (change.Add identifier streams) place done k p a b = added-all c place done identifier streams k p b
 new-owns c (change.Streams identifier stops streams) place done k p a b = streamed-each c (number_named identifier k.subs) k.made done identifier stops streams streams k (omega arith) (named-number identifier k.subs a) b
-new-owns c (change.Remove identifier) place done k p a b = tt
-new-owns c change.Close place done k p a b = tt
+new-owns c _ place done k p a b = tt
 
 -- ---- identifiers stay apart
 
 abbrev AddsNew : Change → List Sub → Type 0
-AddsNew change.Nothing subs = ⊤
 AddsNew (change.Add identifier streams) subs = list_any (λ (z : Sub). bytes_eq z.identifier identifier) subs ≡ false
-AddsNew (change.Streams identifier stops streams) subs = ⊤
-AddsNew (change.Remove identifier) subs = ⊤
-AddsNew change.Close subs = ⊤
+AddsNew _ subs = ⊤
 
 not-found : (p : Sub → Bool) (xs : List Sub) → find p xs ≡ None → list_any p xs ≡ false
 not-found p [] e = refl
@@ -323,11 +314,6 @@ perform-adds identifier streams (Err fault) subs = tt
 perform-adds identifier streams (Ok answer) subs = tt
 
 plan-adds : (r : Callbacks) (user : List ℕ) (k : Conn) (p : Piece) → AddsNew (plan_for r user (task_of k p)).change k.subs
-plan-adds r user k (piece.Cmd (Err command_fault.BadJson)) = tt
-plan-adds r user k (piece.Cmd (Err command_fault.UnknownCommand)) = tt
-plan-adds r user k (piece.Cmd (Err command_fault.NoIdentifier)) = tt
-plan-adds r user k (piece.Cmd (Err command_fault.BadData)) = tt
-plan-adds r user k (piece.Cmd (Err command_fault.OutOfMemory)) = tt
 plan-adds r user k (piece.Cmd (Ok (command.Subscribe identifier))) = go (sub_named identifier k) refl
   where
     go : (o : Option Sub) → sub_named identifier k ≡ o → AddsNew (plan_for r user (subscribe_task identifier (length k.subs) o)).change k.subs
@@ -354,9 +340,9 @@ plan-adds r user k (piece.Confirm sub) = go _
     go : (o : Option Sub) → AddsNew (plan_for r user (confirm_task o)).change k.subs
     go None = tt
     go (Some x) = tt
-plan-adds r user k (piece.Remote reconnect) = tt
-plan-adds r user k piece.Gone = tt
-plan-adds r user k piece.Restart = tt
+plan-adds r user k (piece.Cmd (Err command_fault.BadJson)) = tt
+plan-adds r user k (piece.Cmd (Err _)) = tt
+plan-adds r user k _ = tt
 
 any-streamed : (n : ℕ) (identifier : List ℕ) (stops streams : List (List ℕ)) (id : List ℕ) (xs : List Sub) → list_any (λ (z : Sub). bytes_eq z.identifier id) xs ≡ false → list_any (λ (z : Sub). bytes_eq z.identifier id) (map (streamed n identifier stops streams) xs) ≡ false
 any-streamed n identifier stops streams id [] h = refl
@@ -503,13 +489,11 @@ named-within k done identifier (x ∷ xs) b = go (bytes_eq x.identifier identifi
     go false t ih = rw t ih
 
 subs-within : (c place n done : ℕ) (k : Conn) (ch : Change) → done < place → AllByRecursion (Bounds k done) k.subs → AllByRecursion (λ (y : Wanted). y.sub.0 ≤ place) (wanted_with c place n k.subs ch)
-subs-within c place n done k change.Nothing less b = tt
 subs-within c place n done k (change.Add identifier streams) less b = above-within c place n place true streams (omega arith)
 subs-within c place n done k (change.Streams identifier stops streams) less b =
     let l = named-within k done identifier k.subs b in
     above-within c (number_named identifier k.subs) n place false streams (omega (arith, l, less))
-subs-within c place n done k (change.Remove identifier) less b = tt
-subs-within c place n done k change.Close less b = tt
+subs-within c place n done k _ less b = tt
 
 -- a Finish of c
 finish-owned : (c : ℕ) (puts : List (Option RowId)) (plan : Plan) (past : List Step) → Legal (Step.Finish c puts plan ∷ past) → Owned (wants_of c past) (seat c past).conn.subs (seat c past).done (seat c past).conn.made
@@ -540,7 +524,6 @@ none-owned subs done made a r = record { numbered = tt; within = tt; owns = tt; 
 
 pub owned : (c : ℕ) (past : List Step) → Legal past → Owned (wants_of c past) (seat c past).conn.subs (seat c past).done (seat c past).conn.made
 owned c [] l = none-owned [] 0 0 tt (omega arith)
-owned c (Step.Boot last ∷ past) l = owned c past l.1
 owned c (Step.Open d token user ∷ past) l = go (d == c) refl (owned c past l.1) user
   where
     go : (b : Bool) → (d == c) ≡ b → Owned (wants_of c past) (seat c past).conn.subs (seat c past).done (seat c past).conn.made → (u : Option (List ℕ)) → Owned (cond (d == c) (own_wanted c u) (wants_of c past)) (seat c past).conn.subs (seat c past).done (seat c past).conn.made
@@ -549,18 +532,6 @@ owned c (Step.Open d token user ∷ past) l = go (d == c) refl (owned c past l.1
     go true b ih (Some u) =
         let unseated_is = userless-seat c past l.1 (fresh-user c d token user past l b) in
         rw (b, unseated_is) (record { numbered = (refl, tt); within = (omega arith, tt); owns = (tt, tt); apart = tt; rise = omega arith })
-owned c (Step.In d text ∷ past) l =
-    let ih = owned c past l.1 in
-    elim (d == c) as (λ b. Owned (wants_of c past) (cond b (with_put (seat c past) (piece.Cmd (command_of text))) (seat c past)).conn.subs (cond b (with_put (seat c past) (piece.Cmd (command_of text))) (seat c past)).done (cond b (with_put (seat c past) (piece.Cmd (command_of text))) (seat c past)).conn.made) [ true ↦ ih | false ↦ ih ]
-owned c (Step.Drop d ∷ past) l =
-    let ih = owned c past l.1 in
-    elim (d == c) as (λ b. Owned (wants_of c past) (cond b (with_put (seat c past) piece.Gone) (seat c past)).conn.subs (cond b (with_put (seat c past) piece.Gone) (seat c past)).done (cond b (with_put (seat c past) piece.Gone) (seat c past)).conn.made) [ true ↦ ih | false ↦ ih ]
-owned c (Step.Stop ∷ past) l =
-    let ih = owned c past l.1 in
-    elim (is_some (user_of c past)) as (λ b. Owned (wants_of c past) (cond b (with_put (seat c past) piece.Restart) (seat c past)).conn.subs (cond b (with_put (seat c past) piece.Restart) (seat c past)).done (cond b (with_put (seat c past) piece.Restart) (seat c past)).conn.made) [ true ↦ ih | false ↦ ih ]
-owned c (Step.Take d ∷ past) l =
-    let ih = owned c past l.1 in
-    elim (d == c) as (λ b. Owned (wants_of c past) (cond b (with_job (seat c past)) (seat c past)).conn.subs (cond b (with_job (seat c past)) (seat c past)).done (cond b (with_job (seat c past)) (seat c past)).conn.made) [ true ↦ ih | false ↦ ih ]
 owned c (Step.Finish d puts plan ∷ past) l = go (d == c) refl (owned c past l.1)
   where
     go : (b : Bool) → (d == c) ≡ b → Owned (wants_of c past) (seat c past).conn.subs (seat c past).done (seat c past).conn.made → Owned (wants_of c (Step.Finish d puts plan ∷ past)) (seat c (Step.Finish d puts plan ∷ past)).conn.subs (seat c (Step.Finish d puts plan ∷ past)).done (seat c (Step.Finish d puts plan ∷ past)).conn.made
@@ -569,9 +540,4 @@ owned c (Step.Finish d puts plan ∷ past) l = go (d == c) refl (owned c past l.
         let l' : Legal (Step.Finish c puts plan ∷ past) = subst (λ x. Legal (Step.Finish x puts plan ∷ past)) e l in
         rw b (finish-owned c puts plan past l' ih)
     go false b ih = rw b ih
-owned c (Step.Ask turn ∷ past) l = owned c past l.1
-owned c (Step.Deliver turn note ∷ past) l =
-    let ih = owned c past l.1 in
-    let all = with_all (seat c past) (deliver_puts (user_of c past) (marks c past) (turn_mark c note past) (seat c past).conn.subs note.rows) in
-    elim note.failed as (λ b. Owned (wants_of c past) (cond b (seat c past) all).conn.subs (cond b (seat c past) all).done (cond b (seat c past) all).conn.made) [ true ↦ ih | false ↦ ih ]
-owned c (Step.Beat now ∷ past) l = owned c past l.1
+owned c (e ∷ past) l = let kept = unfinished c e past refl in rw (kept.conn, kept.done) (owned c past l.1)

@@ -1,11 +1,9 @@
 -- Giving each want that the turn takes its mark is what the turn does to the streams.
-use Rattle.std.proofs.Common.{ℕ, zero, suc, ◌+◌, ◌≡◌, ◌≤◌, ◌==◌, ◌&&◌, Bool, true, false, cond, List, [], ◌∷◌, ◌++◌, length, length-append, map, take, drop, Some, None, Option, refl, ap, sym, subst, ◌∙◌, arith, is_none}
-use Rattle.std.specs.Prelude.{⊤, leb, ltb, option_map}
+use Rattle.std.proofs.Common.{ℕ, zero, suc, ◌+◌, ◌≡◌, ◌≤◌, ◌==◌, ◌&&◌, Bool, true, false, List, [], ◌∷◌, ◌++◌, length, map, take, drop, Some, None, Option, refl, ap, sym, subst, ◌∙◌, arith, is_none}
+use Rattle.std.specs.Prelude.{leb, ltb, option_map}
 use Rattle.std.specs.List.{list_any, AllByRecursion}
 use Rattle.std.proofs.lemmas.Bool.Decides.{nat_tests}
 use Rattle.cable_base.proofs.Each.{All-implied}
-use Rattle.cable_base.specs.declared.numbers.SubNo.{SubNo}
-use Rattle.cable_base.specs.declared.numbers.WantNo.{WantNo}
 use Rattle.cable_model.specs.Connection.{Want, Sub}
 use Rattle.cable_model.specs.declared.journals.ReadNote.{ReadNote}
 use Rattle.cable_model.specs.Legal.{Legal}
@@ -18,14 +16,14 @@ use Rattle.conn_core.specs.Marked.{Marks, marked_want, marked_sub, row_id}
 use Rattle.conn_core.specs.Subscriptions.{Subscription}
 use Rattle.conn_seat.specs.Seated.{SeatOf, marks_at}
 use Rattle.conn_seat.specs.Seats.{Seated}
-use Rattle.conn_seat.specs.Turns.{placed_each, taken_by, taken_sub, taken_stream, AreTaken, AreTakenOf, is_pair, or_mark}
+use Rattle.conn_seat.specs.Turns.{placed_each, taken_by, taken_stream, AreTaken, AreTakenOf, is_pair, or_mark}
 use Rattle.conn_seat.proofs.Placing.{places-take}
 use Rattle.node_seats.specs.declared.turning.Wanted.{Wanted}
-use Rattle.node_seats.specs.Turned.{pairs_by, pair_of, wanted_by}
+use Rattle.node_seats.specs.Turned.{pairs_by, pair_of}
 use Rattle.stream_set.specs.declared.entries.StreamEntry.{StreamEntry}
 use Rattle.turn_wants.specs.Wished.{AreWished, wants_of, taken_count, found_made}
 use Rattle.turn_wants.proofs.Counted.{userless-mark, userless-wants, legal-at_ask, wants-length, wants-since, count-within}
-use Rattle.turn_wants.proofs.Owned.{NumberedFrom, Owns, Owned, owned}
+use Rattle.turn_wants.proofs.Owned.{NumberedFrom, Owns, owned}
 
 -- ---- a stretch of wants that are numbered on
 
@@ -49,9 +47,6 @@ All-drop P (suc k) (x ∷ xs) h = All-drop P k xs h.1
 pub All-front : {A : Type 0} (P : A → Type 0) (xs ys : List A) → AllByRecursion P (xs ++ ys) → AllByRecursion P xs
 All-front P [] ys h = tt
 All-front P (x ∷ xs) ys h = (h.0, All-front P xs ys h.1)
-
-sub_no : ℕ → SubNo
-sub_no n = record { 0 = n }
 
 -- a want of this number is among them where the number is one of theirs, and it is of this subscription
 at-want : (s w n : ℕ) (ys : List Wanted) → NumberedFrom n ys → AllByRecursion (λ (y : Wanted). y.want.0 ≡ w → y.sub.0 ≡ s) ys → n ≤ w

@@ -1,16 +1,9 @@
 -- The wants of a change put one after another, the number of a named subscription, and the confirmations added one after another.
-use Rattle.std.proofs.Common.{ℕ, suc, ◌+◌, ◌<◌, ◌≤◌, ◌≡◌, ◌==◌, Bool, true, false, cond, ◌&&◌, List, [], ◌∷◌, ◌++◌, length, map, drop, get_or, drop-cons, add-one, Some, None, Option, refl, ap, sym, subst, ◌∙◌, arith, bytes_eq}
+use Rattle.std.proofs.Common.{ℕ, ◌+◌, ◌<◌, ◌≤◌, ◌≡◌, ◌==◌, Bool, true, false, ◌&&◌, List, [], ◌∷◌, ◌++◌, length, drop, get_or, drop-cons, add-one, refl, ap, sym, ◌∙◌, arith}
 use Rattle.std.proofs.lemmas.List.{append-nil, append_assoc, drop_all}
 use Rattle.std.proofs.lemmas.Bool.Decides.{nat_tests}
-use Rattle.std.specs.Prelude.{OnOk}
-use Rattle.cable_model.specs.Connection.{Sub}
-use Rattle.conn_core.specs.Subscriptions.{SubParts, shown}
-use Rattle.conn_core.specs.Bare.{bare}
-use Rattle.node_seats.specs.declared.turning.Delivery.{Delivery}
 use Rattle.node_seats.specs.declared.turning.Wanted.{Wanted}
-use Rattle.node_seats.specs.Numbers.{Numbers}
-use Rattle.turn_wants.specs.Wants.{confirms_of}
-use Rattle.turn_wants.specs.Wished.{wanted_as, wanted_above, number_named}
+use Rattle.turn_wants.specs.Wished.{wanted_as, wanted_above}
 
 -- so many of a subscription's wants were put
 pub record Putting (c s made : ℕ) (confirms : Bool) (names : List (List ℕ)) (old : List Wanted) (kept count : ℕ) (wanted : List Wanted) (taken spare : ℕ) : Type 0 where

@@ -1,10 +1,9 @@
 -- The wants that turns are to take go on with each entry of the journal.
-use Rattle.std.proofs.Common.{ℕ, suc, ◌+◌, ◌-◌, ◌≡◌, ◌≤◌, ◌==◌, Bool, true, false, cond, List, [], ◌∷◌, ◌++◌, length, length-append, take, drop, Some, None, Option, refl, ap, sym, subst, ◌∙◌, arith}
-use Rattle.std.proofs.lemmas.List.{append-nil, append_assoc, take-append-le, drop-append-le, take-append-drop}
+use Rattle.std.proofs.Common.{ℕ, suc, ◌+◌, ◌≡◌, ◌≤◌, ◌==◌, Bool, true, false, List, [], ◌∷◌, ◌++◌, length, length-append, take, drop, Some, None, Option, refl, ap, sym, subst, ◌∙◌, arith}
+use Rattle.std.proofs.lemmas.List.{append-nil, take-append-le, drop-append-le, take-append-drop}
 use Rattle.std.proofs.lemmas.List.Elements.{filter-append}
 use Rattle.std.proofs.lemmas.Bool.Decides.{nat_tests}
 use Rattle.std.proofs.Math.Seq.{drop-append_seam, take-length}
-use Rattle.std.specs.List.{filter}
 use Rattle.cable_base.specs.declared.numbers.RowId.{RowId}
 use Rattle.cable_model.specs.Connection.{Sub}
 use Rattle.cable_model.specs.declared.journals.ReadNote.{ReadNote}
@@ -15,13 +14,13 @@ use Rattle.cable_model.specs.Legal.{Legal}
 use Rattle.cable_model.specs.Pieces.{seat}
 use Rattle.cable_model.specs.Possible.{is_out}
 use Rattle.cable_model.specs.Steps.{Step}
-use Rattle.cable_model.specs.Wants.{Mark, marks, turn_mark, user_of, made, at_ask}
+use Rattle.cable_model.specs.Wants.{marks, user_of, made, at_ask}
 use Rattle.cable_model.proofs.Holding.{marks-at_ask}
 use Rattle.cable_model.proofs.Marks.{missed-marks}
 use Rattle.node_seats.specs.declared.turning.Wanted.{Wanted}
 use Rattle.node_seats.specs.Turned.{is_by, wanted_by}
 use Rattle.turn_wants.specs.Wished.{wanted_as, wanted_above, wanted_with, number_named, own_wanted, wants_of, taken_count, untaken, found_made, AreWished, is_plain}
-use Rattle.turn_wants.proofs.Counted.{fresh-user, userless-marks, userless-wants, userless-mark, legal-at_ask, wants-length, wants-since, count-last, count-within}
+use Rattle.turn_wants.proofs.Counted.{fresh-user, userless-marks, userless-wants, legal-at_ask, wants-length, wants-since, count-last, count-within}
 
 -- ---- whose they are
 
@@ -40,18 +39,14 @@ above-other d c s n confirms [] t = refl
 above-other d c s n confirms (name ∷ names) t = rw t (above-other d c s (n + 1) false names t)
 
 with-own : (c place n : ℕ) (subs : List Sub) (x : Change) → wanted_by c (wanted_with c place n subs x) ≡ wanted_with c place n subs x
-with-own c place n subs change.Nothing = refl
 with-own c place n subs (change.Add identifier streams) = above-own c place n true streams
 with-own c place n subs (change.Streams identifier stops streams) = above-own c (number_named identifier subs) n false streams
-with-own c place n subs (change.Remove identifier) = refl
-with-own c place n subs change.Close = refl
+with-own c place n subs _ = refl
 
 with-other : (d c place n : ℕ) (subs : List Sub) (x : Change) → (c == d) ≡ false → wanted_by d (wanted_with c place n subs x) ≡ []
-with-other d c place n subs change.Nothing t = refl
 with-other d c place n subs (change.Add identifier streams) t = above-other d c place n true streams t
 with-other d c place n subs (change.Streams identifier stops streams) t = above-other d c (number_named identifier subs) n false streams t
-with-other d c place n subs (change.Remove identifier) t = refl
-with-other d c place n subs change.Close t = refl
+with-other d c place n subs _ t = refl
 
 own-own : (c : ℕ) (user : Option (List ℕ)) → wanted_by c (own_wanted c user) ≡ own_wanted c user
 own-own c None = refl
@@ -90,16 +85,12 @@ pub wished-boot : (last : ℕ) → AreWished (Step.Boot last ∷ []) [] 0
 wished-boot last = record { within = omega arith; all = λ c. refl; out = λ o c. refl; none = λ o. refl }
 
 pub wished-plain : (e : Step) (past : List Step) (ws : List Wanted) (taken : ℕ) → is_plain e ≡ true → AreWished past ws taken → AreWished (e ∷ past) ws taken
-wished-plain (Step.In c text) past ws taken p h = same past (Step.In c text ∷ past) ws taken h refl refl (λ d. refl) (λ d. refl)
-wished-plain (Step.Drop c) past ws taken p h = same past (Step.Drop c ∷ past) ws taken h refl refl (λ d. refl) (λ d. refl)
-wished-plain Step.Stop past ws taken p h = same past (Step.Stop ∷ past) ws taken h refl refl (λ d. refl) (λ d. refl)
-wished-plain (Step.Take c) past ws taken p h = same past (Step.Take c ∷ past) ws taken h refl refl (λ d. refl) (λ d. refl)
-wished-plain (Step.Beat now) past ws taken p h = same past (Step.Beat now ∷ past) ws taken h refl refl (λ d. refl) (λ d. refl)
 wished-plain (Step.Boot last) past ws taken p h = absurd (cc (p))
 wished-plain (Step.Open c token user) past ws taken p h = absurd (cc (p))
 wished-plain (Step.Finish c puts plan) past ws taken p h = absurd (cc (p))
 wished-plain (Step.Ask turn) past ws taken p h = absurd (cc (p))
 wished-plain (Step.Deliver turn note) past ws taken p h = absurd (cc (p))
+wished-plain e past ws taken p h = same past (e ∷ past) ws taken h refl refl (λ d. refl) (λ d. refl)
 
 pub wished-open : (c : ℕ) (token : List ℕ) (user : Option (List ℕ)) (past : List Step) (ws : List Wanted) (taken : ℕ)
     → Legal (Step.Open c token user ∷ past) → AreWished past ws taken → AreWished (Step.Open c token user ∷ past) (ws ++ own_wanted c user) taken

@@ -1,4 +1,5 @@
-use Rattle.std.proofs.Common.{◌≡◌, ap, ◌∙◌, sym, subst, rules}
+use Rattle.std.proofs.Common.{◌≡◌, ap, ◌∙◌, sym, subst, rules, string_bytes}
+use Rattle.std.proofs.lemmas.Result.{IfOk-weaker}
 use Rattle.std.specs.Str.{IsUtf8}
 use Rattle.serde_json.specs.Read.{read}
 use Rattle.cable_base.specs.Squeeze.{squeezed, IsSqueezedJson}
@@ -14,10 +15,10 @@ unreachable-requires c =
 
 pub returns-clause-reads : goal.returns-clause-reads
 returns-clause-reads c =
-    let is : c.of.result ≡ squeezed c.args.text.now = search rules in
-    ap read is ∙ read-squeezed c.args.text.now c.requires
+    let chars : string_bytes c.in-Ok.inner ≡ squeezed c.args.text.now = search rules in
+    IfOk-weaker c.of.result _ _ (λ t is. ap read (is ∙ chars) ∙ read-squeezed c.args.text.now c.requires) c.of.ensures
 
 pub returns-clause-whole : goal.returns-clause-whole
 returns-clause-whole c =
-    let is : c.of.result ≡ squeezed c.args.text.now = search rules in
-    subst IsSqueezedJson (sym is) (IsSqueezedJson-squeezed c.args.text.now c.requires)
+    let chars : string_bytes c.in-Ok.inner ≡ squeezed c.args.text.now = search rules in
+    IfOk-weaker c.of.result _ _ (λ t is. subst IsSqueezedJson (sym (is ∙ chars)) (IsSqueezedJson-squeezed c.args.text.now c.requires)) c.of.ensures

@@ -1,6 +1,5 @@
-use Rattle.std.proofs.Common.{ℕ, List, ◌++◌, ap, ◌∙◌}
+use Rattle.std.proofs.Common.{ℕ, List, ap, ◌∙◌}
 use Rattle.std.specs.List.{flat_map}
-use Rattle.cable_base.specs.Names.{reserved_prefix}
 use Rattle.conn_core.specs.Subscriptions.{Subscription}
 use Rattle.subscriber_map.specs.HoldMaps.{HoldMap, without_at}
 use Rattle.node_holds.specs.Holding.{named_in, own_want, without_all}
@@ -10,6 +9,6 @@ pub returns-in-Close : goal.returns-in-Close
 returns-in-Close c =
     rw c.in-Close.is
     (c.release_subs.ensures
-    ∙ (ap (λ (ss : List Subscription). without_all c.args.conn.0 (flat_map named_in ss) c.remove_joined.new.self) c.subs-in-Close.ensures.subs
+    ∙ (ap (λ (ss : List Subscription). without_all c.args.conn.0 (flat_map named_in ss) c.remove.new.self) c.subs-in-Close.ensures.subs
     ∙ ap (λ (m : HoldMap). without_all c.args.conn.0 (flat_map named_in c.args.seat.now.subs) m)
-    (c.remove_joined.ensures.left ∙ ap (λ (u : List ℕ). without_at c.args.holders.now (reserved_prefix ++ u) c.args.conn own_want) c.user.ensures)))
+    (c.remove.ensures.left ∙ ap (λ (u : List ℕ). without_at c.args.holders.now u c.args.conn own_want) (c.as_str-in-Close.ensures ∙ c.own.ensures))))

@@ -11,7 +11,7 @@ use Rattle.node_core.proofs.nodes.Node.beat.Goals as goal
 pub put_all-requires : goal.put_all-requires
 put_all-requires c =
     let enough = rw (c.deref-2.ensures.value, c.in_ok-conns.ensures) at c.in_ok-reserve_each.ensures.ok in
-    let room = beat-room c.args.now.0 c.reserve_each.new.self c.self.invariant.0 enough in
+    let room = beat-room c.args.now.0 c.reserve_each.new.self c.self.invariant.stands enough in
     record {
       room = subst (λ (qs : List Queued). HasRoomFor qs c.reserve_each.new.self)
           (sym (c.in_ok-queued.ensures ∙ ap (map (ping_of c.args.now.0)) (c.deref.ensures.value ∙ c.in_ok-conns.ensures))) room;
@@ -19,26 +19,26 @@ put_all-requires c =
 
 pub invariant_of-self-2 : goal.invariant_of-self-2
 invariant_of-self-2 c =
-    let said = rw (c.in_ok-queued.ensures, c.deref.ensures.value, c.in_ok-conns.ensures) at c.put_all.ensures in (
-      rw (c.enter.ensures.entered, c.in_ok-reserve.ensures.kept) (beats c.args.now.0 _ (room-out c.reserve_each.new.self c.self.invariant.0 c.in_ok-reserve_each.ensures.same) said),
-      room-left _ c.reserve.new.self c.enter.new.self c.in_ok-reserve.ensures.log c.in_ok-reserve.ensures.beside c.enter.ensures.log c.enter.ensures.beside,
-      c.self.invariant.2,
-    )
+    let said = rw (c.in_ok-queued.ensures, c.deref.ensures.value, c.in_ok-conns.ensures) at c.put_all.ensures in record {
+      stands = rw (c.enter.ensures.entered, c.in_ok-reserve.ensures.kept) (beats c.args.now.0 _ (room-out c.reserve_each.new.self c.self.invariant.stands c.in_ok-reserve_each.ensures.same) said);
+      turn_room = room-left _ c.reserve.new.self c.enter.new.self c.in_ok-reserve.ensures.log c.in_ok-reserve.ensures.beside c.enter.ensures.log c.enter.ensures.beside;
+      ready = c.self.invariant.ready;
+    }
 
 pub returns-clause-goes : goal.returns-clause-goes
 returns-clause-goes c =
     rw (← c.self.view_is)
-    (goes-on _ _ c.self.inside.seats.entries [] c.self.inside.ready.waiting (invariant_of-self-2 c).0 (λ d. c.put_all.ensures.taken d ∙ c.in_ok-reserve_each.ensures.same.taken d) (λ d. c.put_all.ensures.forgotten d ∙ c.in_ok-reserve_each.ensures.same.forgotten d) (λ d e. refl) c.self.invariant.2 refl
+    (goes-on _ _ c.self.inside.seats.entries [] c.self.inside.ready.waiting (invariant_of-self-2 c).stands (λ d. c.put_all.ensures.taken d ∙ c.in_ok-reserve_each.ensures.same.taken d) (λ d. c.put_all.ensures.forgotten d ∙ c.in_ok-reserve_each.ensures.same.forgotten d) (λ d e. refl) c.self.invariant.ready refl
     (looks-none _ _ _ refl))
 
 pub returns-in_err-conns-clause-goes : goal.returns-in_err-conns-clause-goes
-returns-in_err-conns-clause-goes c = rw (← c.self.view_is) (goes-nowhere _ _ c.self.invariant.0 c.self.invariant.2 (search rules))
+returns-in_err-conns-clause-goes c = rw (← c.self.view_is) (goes-nowhere _ _ c.self.invariant.stands c.self.invariant.ready (search rules))
 
 pub returns-in_err-queued-clause-goes : goal.returns-in_err-queued-clause-goes
-returns-in_err-queued-clause-goes c = rw (← c.self.view_is) (goes-nowhere _ _ c.self.invariant.0 c.self.invariant.2 (search rules))
+returns-in_err-queued-clause-goes c = rw (← c.self.view_is) (goes-nowhere _ _ c.self.invariant.stands c.self.invariant.ready (search rules))
 
 pub returns-in_err-reserve_each-clause-goes : goal.returns-in_err-reserve_each-clause-goes
-returns-in_err-reserve_each-clause-goes c = rw (← c.self.view_is) (goes-nowhere _ _ c.self.invariant.0 c.self.invariant.2 (search rules))
+returns-in_err-reserve_each-clause-goes c = rw (← c.self.view_is) (goes-nowhere _ _ c.self.invariant.stands c.self.invariant.ready (search rules))
 
 pub returns-in_err-reserve-clause-goes : goal.returns-in_err-reserve-clause-goes
-returns-in_err-reserve-clause-goes c = rw (← c.self.view_is) (goes-nowhere _ _ c.self.invariant.0 c.self.invariant.2 (search rules))
+returns-in_err-reserve-clause-goes c = rw (← c.self.view_is) (goes-nowhere _ _ c.self.invariant.stands c.self.invariant.ready (search rules))

@@ -3,8 +3,8 @@ use Rattle.node_core.proofs.Standing.{boots, no-turn}
 use Rattle.node_core.proofs.nodes.Node.boot.Goals as goal
 
 pub invariant_of-result : goal.invariant_of-result
-invariant_of-result c = (
-  rw (c.in_ok-journal.ensures, c.empty.ensures, c.at.ensures, c.empty-3.ensures, c.empty-4.ensures.wanted, c.empty-4.ensures.taken) (boots c.args.last c.empty-2.result c.empty-2.ensures.nothing),
-  no-turn _ c.args.last.0 c.in_ok-journal.journal c.in_ok-journal.ensures,
-  rw (c.empty.ensures, c.empty-5.ensures) (λ d. refl),
-)
+invariant_of-result c = record {
+  stands = rw (c.in_ok-journal.ensures, c.empty.ensures, c.at.ensures, c.empty-3.ensures, c.empty-4.ensures.wanted, c.empty-4.ensures.taken) (boots c.args.last c.empty-2.result c.empty-2.ensures.nothing);
+  turn_room = no-turn _ c.args.last.0 c.in_ok-journal.journal c.in_ok-journal.ensures;
+  ready = rw (c.empty.ensures, c.empty-5.ensures) (λ d. refl);
+}

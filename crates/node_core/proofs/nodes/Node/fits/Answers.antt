@@ -10,4 +10,4 @@ returns c =
     let w : WorkState = record { node = c.work.inside.node; conn = c.work.inside.conn; place = c.work.inside.place; task = c.work.inside.task; plan = c.work.inside.plan; puts = c.work.inside.puts.items } in
     let node : c.work.inside.node ≡ c.self.inside.no = search rules in
     let done : length c.work.inside.puts.items ≡ length c.work.inside.plan.casts = search rules in
-    rw (← c.work.view_is, ← c.self.view_is) (fits-as w n c.self.inside.seats.entries c.is_out.result c.self.invariant.0.numbers node done c.is_out.ensures.0 c.is_out.ensures.1)
+    rw (← c.work.view_is, ← c.self.view_is) (fits-as w n c.self.inside.seats.entries c.is_out.result c.self.invariant.stands.numbers node done c.is_out.ensures.0 c.is_out.ensures.1)

@@ -7,7 +7,7 @@ use Rattle.node_core.proofs.nodes.Node.forget.Goals as goal
 
 pub forget-requires-clause-empty : goal.forget-requires-clause-empty
 forget-requires-clause-empty c =
-    nothing-queued c.args.conn.0 (past_of c.self.inside.journal.kept) c.self.inside.outboxes (subst (λ (n : NodeState). may_forget c.args.conn.0 n ≡ true) (sym c.self.view_is) c.requires) c.self.invariant.0.queues
+    nothing-queued c.args.conn.0 (past_of c.self.inside.journal.kept) c.self.inside.outboxes (subst (λ (n : NodeState). may_forget c.args.conn.0 n ≡ true) (sym c.self.view_is) c.requires) c.self.invariant.stands.queues
 
 pub forget-requires-clause-used : goal.forget-requires-clause-used
 forget-requires-clause-used c =

@@ -9,5 +9,5 @@ pub returns : goal.returns
 returns c =
     rw (← c.self.view_is)
     (if-implied _ _ c.receiving.result
-    (λ numbers e. ap (map (λ (d : ConnNo). d.0)) e ∙ receiving-all _ c.self.inside.seats.entries (worked _ c.self.invariant.0.legal) c.self.invariant.0.numbers)
+    (λ numbers e. ap (map (λ (d : ConnNo). d.0)) e ∙ receiving-all _ c.self.inside.seats.entries (worked _ c.self.invariant.stands.legal) c.self.invariant.stands.numbers)
     c.receiving.ensures)

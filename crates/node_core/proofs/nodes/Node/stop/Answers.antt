@@ -5,23 +5,23 @@ use Rattle.node_core.proofs.nodes.Node.stop.Goals as goal
 
 pub invariant_of-self-2 : goal.invariant_of-self-2
 invariant_of-self-2 c =
-    let look = rw (c.deref.ensures.value, c.in_ok-conns.ensures) at c.refresh_all.ensures in (
-      rw (c.enter.ensures.entered, c.in_ok-reserve-2.ensures.kept) (restarts _ c.self.invariant.0 c.stop.ensures),
-      room-left _ c.reserve-2.new.self c.enter.new.self c.in_ok-reserve-2.ensures.log c.in_ok-reserve-2.ensures.beside c.enter.ensures.log c.enter.ensures.beside,
-      still-ready c.self.inside.seats.entries c.stop.new.self.entries _ _ _ _ (alike-stopped _ _ _ c.self.invariant.0.numbers c.stop.ensures) c.self.invariant.2 c.in_ok-reserve.ensures.same.waiting look,
-    )
+    let look = rw (c.deref.ensures.value, c.in_ok-conns.ensures) at c.refresh_all.ensures in record {
+      stands = rw (c.enter.ensures.entered, c.in_ok-reserve-2.ensures.kept) (restarts _ c.self.invariant.stands c.stop.ensures);
+      turn_room = room-left _ c.reserve-2.new.self c.enter.new.self c.in_ok-reserve-2.ensures.log c.in_ok-reserve-2.ensures.beside c.enter.ensures.log c.enter.ensures.beside;
+      ready = still-ready c.self.inside.seats.entries c.stop.new.self.entries _ _ _ _ (alike-stopped _ _ _ c.self.invariant.stands.numbers c.stop.ensures) c.self.invariant.ready c.in_ok-reserve.ensures.same.waiting look;
+    }
 
 pub returns-clause-goes : goal.returns-clause-goes
 returns-clause-goes c =
     let look = rw (c.deref.ensures.value, c.in_ok-conns.ensures) at c.refresh_all.ensures in
     rw (← c.self.view_is)
-    (goes-on _ _ c.self.inside.seats.entries _ c.reserve.new.self.waiting (invariant_of-self-2 c).0 (λ d. refl) (λ d. refl) (alike-stopped _ _ _ c.self.invariant.0.numbers c.stop.ensures) c.self.invariant.2 c.in_ok-reserve.ensures.same.waiting look)
+    (goes-on _ _ c.self.inside.seats.entries _ c.reserve.new.self.waiting (invariant_of-self-2 c).stands (λ d. refl) (λ d. refl) (alike-stopped _ _ _ c.self.invariant.stands.numbers c.stop.ensures) c.self.invariant.ready c.in_ok-reserve.ensures.same.waiting look)
 
 pub returns-in_err-conns-clause-goes : goal.returns-in_err-conns-clause-goes
-returns-in_err-conns-clause-goes c = rw (← c.self.view_is) (goes-nowhere _ _ c.self.invariant.0 c.self.invariant.2 (search rules))
+returns-in_err-conns-clause-goes c = rw (← c.self.view_is) (goes-nowhere _ _ c.self.invariant.stands c.self.invariant.ready (search rules))
 
 pub returns-in_err-reserve-clause-goes : goal.returns-in_err-reserve-clause-goes
-returns-in_err-reserve-clause-goes c = rw (← c.self.view_is) (goes-nowhere _ _ c.self.invariant.0 c.self.invariant.2 (search rules))
+returns-in_err-reserve-clause-goes c = rw (← c.self.view_is) (goes-nowhere _ _ c.self.invariant.stands c.self.invariant.ready (search rules))
 
 pub returns-in_err-reserve-2-clause-goes : goal.returns-in_err-reserve-2-clause-goes
-returns-in_err-reserve-2-clause-goes c = rw (← c.self.view_is) (goes-nowhere _ _ c.self.invariant.0 c.self.invariant.2 (search rules))
+returns-in_err-reserve-2-clause-goes c = rw (← c.self.view_is) (goes-nowhere _ _ c.self.invariant.stands c.self.invariant.ready (search rules))

@@ -1,4 +1,5 @@
 use Rattle.std.proofs.Common.{◌≡◌, ℕ, List, ◌++◌, codes, decimal, ap, ◌∙◌, append_assoc}
+use Rattle.std.proofs.lemmas.Result.{IfOk-weaker}
 use Rattle.replay_cli.specs.Made.{Draw, speak_text}
 use Rattle.replay_cli.specs.contracts.draws.Draw.{the_view}
 use Rattle.replay_cli.proofs.draws.Draw.speak.Goals as goal
@@ -11,4 +12,5 @@ speak_is : (d : Draw) (text : List ℕ) → text ≡ codes "{\"command\":\"messa
 speak_is d text e = e ∙ ap (λ (t : List ℕ). codes "{\"command\":\"message\",\"identifier\":\"{\\\"channel\\\":\\\"Chat\\\",\\\"room\\\":" ++ t) (regroup (decimal d.room) (codes "}\"") (codes ",\"data\":\"{\\\"action\\\":\\\"speak\\\",\\\"i\\\":") (decimal d.place) (codes "}\"}"))
 
 pub returns : goal.returns
-returns c = speak_is (the_view c.self.inside) _ (c.of.ensures ∙ c.in_ok-format.ensures.ok) ∙ ap speak_text c.self.view_is
+returns c =
+    IfOk-weaker c.of.result _ _ (λ t is. speak_is (the_view c.self.inside) _ (is ∙ c.in_ok-format.ensures.ok) ∙ ap speak_text c.self.view_is) c.of.ensures

@@ -1,0 +1,7 @@
+//! Tests of the seat of a connection.
+//!
+//! They stand in a crate of their own, since a crate with tests is proved twice.
+#![tactic(auto)]
+
+#[cfg(test)]
+mod conn_seat_tests;
