@@ -1,16 +1,14 @@
-ghost use Rattle.std.specs.Prelude.{◌<◌, ◌^◌};
+ghost use Rattle.std.specs.Prelude.{◌<◌};
 
+use crate::limits::MOMENT_LIMIT;
 use crate::numbers::Millis;
 use std::time;
 
-/// The first number of milliseconds that is no moment: 2^53.
-const MOMENT_LIMIT: u128 = 1 << 53;
-
 /// Tells the moment.
 pub trait Clock {
-    /// The present moment, below 2^53 milliseconds since 1970.
+    /// The present moment, in milliseconds since 1970, below `MOMENT_LIMIT`.
     fn now(&self) -> Millis
-        ensures { result.0 < 2 ^ 53 };
+        ensures { result.0 < MOMENT_LIMIT };
 }
 
 /// The system's clock, read through the runtime.
@@ -33,7 +31,7 @@ impl<'a, R: time::Clock> Clock for SystemClock<'a, R> {
             return Millis(0);
         };
         let millis = since.as_millis();
-        if millis < MOMENT_LIMIT {
+        if millis < MOMENT_LIMIT as u128 {
             Millis(millis as u64)
         } else {
             Millis(0)

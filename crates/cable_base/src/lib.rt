@@ -7,6 +7,7 @@ mod clocks;
 mod failing;
 mod faults;
 mod hashing;
+mod limits;
 mod lists;
 mod memory;
 mod numbers;
@@ -21,6 +22,11 @@ pub use clocks::{Clock, SystemClock};
 pub use failing::FailingCalls;
 pub use faults::{Failed, OutOfMemory, Trouble};
 pub use hashing::channel_hash;
+pub use limits::{
+    LAST_CONN, LAST_MOMENT, LAST_NODE, MOMENT_LIMIT, MOST_BATCH, MOST_CONNECTIONS, MOST_ID,
+    MOST_LINE, MOST_NAME, MOST_PAYLOAD, MOST_PUTS, MOST_SCRIPT, MOST_STREAMS, MOST_SUBSCRIPTIONS,
+    MOST_TEXT, MOST_USER, MOST_WAITING, PAGE_ROWS,
+};
 pub use lists::{Copied, Listed};
 pub use memory::{MemSink, MemSource};
 pub use numbers::{ConnNo, Millis, NodeNo, RowId, SubNo, WantNo};

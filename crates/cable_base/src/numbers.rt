@@ -6,7 +6,7 @@ use std::alloc::Global;
 #[derive(Clone, Copy, Debug, PartialEq, Eq, PartialOrd, Ord, Hash)]
 pub struct ConnNo(pub u64);
 
-/// The number of a node, from 1 to 8.
+/// The number of a node, from 1 to `LAST_NODE`.
 #[derive(Clone, Copy, Debug, PartialEq, Eq, PartialOrd, Ord, Hash)]
 pub struct NodeNo(pub u32);
 
@@ -18,7 +18,7 @@ pub struct SubNo(pub u64);
 #[derive(Clone, Copy, Debug, PartialEq, Eq, PartialOrd, Ord, Hash)]
 pub struct WantNo(pub u64);
 
-/// The id of a row of the table, up to `2^63 - 1`. 0 stands for "before the first row".
+/// The id of a row of the table, up to `MOST_ID`. 0 stands for "before the first row".
 #[derive(Clone, Copy, Debug, PartialEq, Eq, PartialOrd, Ord, Hash)]
 pub struct RowId(pub u64);
 
@@ -28,6 +28,6 @@ impl Copied for RowId {
     }
 }
 
-/// A moment or a span in whole milliseconds. A moment counts from 1970 and is below 2^53.
+/// A moment or a span in whole milliseconds. A moment counts from 1970 and is below `MOMENT_LIMIT`.
 #[derive(Clone, Copy, Debug, PartialEq, Eq, PartialOrd, Ord, Hash)]
 pub struct Millis(pub u64);

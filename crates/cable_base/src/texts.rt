@@ -87,7 +87,7 @@ impl Copied for Text {
     }
 }
 
-/// The name of a stream, seen as its bytes. A callback may hold and cast to names of at most 1,024 bytes.
+/// The name of a stream, seen as its bytes. A callback may hold and cast to names of at most `MOST_NAME` bytes.
 #[derive(Debug, Drop)]
 pub struct Name {
     text: Text,

@@ -8,11 +8,16 @@ use cable_base::{OutOfMemory, Text};
 use json::Writer;
 use std::alloc::Global;
 
+/// The room that is made for the quotes of a string and the escapes in it, in bytes. Where there are more of these the memory grows.
+const QUOTING_ROOM: usize = 64;
+
 /// The text as a JSON string, with the shortest escapes (RFC 8259, section 7). HTML characters stand as they are.
 fn quoted_string(alloc: Global, text: &str) -> Result<String, OutOfMemory>
     ensures { IfOk result (λ s. string_bytes s ≡ quoted text.now) }
 {
-    let mut writer = Writer::new(Vec::new(alloc));
+    let mut bytes = Vec::new(alloc);
+    bytes.reserve(text.len().saturating_add(QUOTING_ROOM))?;
+    let mut writer = Writer::new(bytes);
     writer.string(text)?;
     match String::from_utf8(writer.into_inner()) {
         Ok(quoted) => Ok(quoted),
@@ -52,6 +57,9 @@ pub fn reject(alloc: Global, identifier: &str) -> Result<Text, OutOfMemory>
     Text::of(format!(in alloc; "{{\"identifier\":{identifier},\"type\":\"reject_subscription\"}}")?)
 }
 
+/// What stands around the identifier and the payload of a message, in bytes.
+const MEMBERS_ROOM: usize = 26;
+
 /// The text that carries a payload to the subscription with this identifier. The payload stands in it as it is, one level deeper:
 /// where it nests 127 arrays and objects, the text nests 128, which `read_json` doesn't read.
 pub fn message(alloc: Global, identifier: &str, payload: &str) -> Result<Text, OutOfMemory>
@@ -59,7 +67,19 @@ pub fn message(alloc: Global, identifier: &str, payload: &str) -> Result<Text, O
     ensures { IfOk result (λ t. t ≡ message_text identifier.now payload.now) }
 {
     let identifier = quoted_string(alloc, identifier)?;
-    Text::of(format!(in alloc; "{{\"identifier\":{identifier},\"message\":{payload}}}")?)
+    let mut line = String::new(alloc);
+    line.reserve(
+        identifier
+            .len()
+            .saturating_add(payload.len())
+            .saturating_add(MEMBERS_ROOM),
+    )?;
+    line.push_str("{\"identifier\":")?;
+    line.push_str(&identifier)?;
+    line.push_str(",\"message\":")?;
+    line.push_str(payload)?;
+    line.push_str("}")?;
+    Ok(Text::of(line)?)
 }
 
 /// The text that ends a connection, and says whether the client is to connect again.

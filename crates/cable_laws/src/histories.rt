@@ -12,7 +12,7 @@ ghost use Rattle.cable_model.specs.Merged.{JournalWindows};
 ghost use Rattle.cable_model.specs.Plans.{AlwaysAnswer};
 ghost use Rattle.cable_model.specs.Promise.{AllLinked, AllWorked, Windows};
 ghost use Rattle.cable_model.specs.Restrictions.{LegalRestrictions};
-ghost use Rattle.cable_model.specs.Script.{callbacks_of};
+ghost use Rattle.channel_book.specs.Answers.{callbacks_of};
 ghost use Rattle.cable_model.specs.Sequence.{InSequence, InboxKept};
 ghost use Rattle.cable_model.specs.Steps.{Step};
 ghost use Rattle.cable_model.specs.Table.{TableStep};

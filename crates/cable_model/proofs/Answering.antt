@@ -9,9 +9,10 @@ use Rattle.channel_book.specs.Answers.{identifier_of, channel_among, object_of, 
 use Rattle.cable_model.specs.declared.plans.Task.{Task}
 use Rattle.cable_model.specs.declared.plans.Task.TheVariants as task
 use Rattle.cable_model.specs.Plans.{Callbacks, IsAnswer, AlwaysAnswer, IsAnswered}
-use Rattle.cable_model.specs.Script.{callbacks_of}
+use Rattle.channel_book.specs.Answers.{callbacks_of}
 
-all-left : (c : Callbacks) (user : List ℕ) → AlwaysAnswer c → (identifiers : List (List ℕ)) → AllByRecursion (λ (identifier : List ℕ). IsAnswer (c.unsubscribed user identifier)) identifiers
+all-left : (c : Callbacks) (user : List ℕ) → AlwaysAnswer c → (identifiers : List (List ℕ))
+    → AllByRecursion (λ (identifier : List ℕ). IsAnswer (c.unsubscribed user identifier)) identifiers
 all-left c user a [] = tt
 all-left c user a (identifier ∷ identifiers) = (a.unsubscribed user identifier, all-left c user a identifiers)
 
@@ -23,7 +24,8 @@ always-answered c a user (task.Close how identifiers) = all-left c user a identi
 always-answered c a user _ = tt
 
 -- a step whose own fault is no want of memory
-no-memory : {A B : Type 0} (why : CallFault) (o : Option A) (rest : A → Result B CallFault) → ¬ (why ≡ fault.OutOfMemory) → ((x : A) → ¬ (rest x ≡ Err fault.OutOfMemory))
+no-memory : {A B : Type 0} (why : CallFault) (o : Option A) (rest : A → Result B CallFault) → ¬ (why ≡ fault.OutOfMemory)
+    → ((x : A) → ¬ (rest x ≡ Err fault.OutOfMemory))
     → ¬ ((or_fault why o >>= rest) ≡ Err fault.OutOfMemory)
 no-memory why None rest n r h = n (cc (h))
 no-memory why (Some x) rest n r h = r x h
@@ -31,7 +33,15 @@ no-memory why (Some x) rest n r h = r x h
 pub books-answer : (book : Declared) → AlwaysAnswer (callbacks_of book)
 books-answer book =
     record {
-      subscribed = λ user text. no-memory fault.BadIdentifier (identifier_of text) _ (λ e. cc (e)) (λ identifier. no-memory fault.UnknownChannel (channel_among book.channels identifier) _ (λ e. cc (e)) (λ channel e. cc (e)));
-      unsubscribed = λ user text. no-memory fault.BadIdentifier (identifier_of text) _ (λ e. cc (e)) (λ identifier. no-memory fault.UnknownChannel (channel_among book.channels identifier) _ (λ e. cc (e)) (λ channel e. cc (e)));
-      perform = λ user text payload. no-memory fault.BadIdentifier (identifier_of text) _ (λ e. cc (e)) (λ identifier. no-memory fault.UnknownChannel (channel_among book.channels identifier) _ (λ e. cc (e)) (λ channel. no-memory fault.BadData (object_of payload) _ (λ e. cc (e)) (λ asked. no-memory fault.UnknownAction (action_among channel.rules.actions asked) _ (λ e. cc (e)) (λ action e. cc (e)))));
+      subscribed = λ user text.
+          no-memory fault.BadIdentifier (identifier_of text) _ (λ e. cc (e)) (λ identifier.
+          no-memory fault.UnknownChannel (channel_among book.channels identifier) _ (λ e. cc (e)) (λ channel e. cc (e)));
+      unsubscribed = λ user text.
+          no-memory fault.BadIdentifier (identifier_of text) _ (λ e. cc (e)) (λ identifier.
+          no-memory fault.UnknownChannel (channel_among book.channels identifier) _ (λ e. cc (e)) (λ channel e. cc (e)));
+      perform = λ user text payload.
+          no-memory fault.BadIdentifier (identifier_of text) _ (λ e. cc (e)) (λ identifier.
+          no-memory fault.UnknownChannel (channel_among book.channels identifier) _ (λ e. cc (e)) (λ channel.
+          no-memory fault.BadData (object_of payload) _ (λ e. cc (e)) (λ asked.
+          no-memory fault.UnknownAction (action_among channel.rules.actions asked) _ (λ e. cc (e)) (λ action e. cc (e)))));
     }

@@ -1,6 +1,7 @@
 -- How a piece is worked: first what it needs from its connection (its task), then what the rules make of that with the answers of the
 -- callbacks (its plan). Within a plan the notes of streams come first, then those of casts, then those of faults of `unsubscribed`.
-use Rattle.std.specs.Prelude.{◌≡◌, ⊤, ℕ, Bool, true, false, cond, not, ◌&&◌, ◌||◌, List, [], ◌∷◌, ◌++◌, map, length, filter, filter_map, flat_map, find, Option, None, Some, is_none, option_to_list, Result, Ok, Err, bytes_eq, ◌==◌, ltb, leb}
+use Rattle.std.specs.Prelude.{◌≡◌, ⊤, ℕ, Bool, true, false, cond, not, ◌&&◌, ◌||◌, List, [], ◌∷◌, ◌++◌, map, length, filter, filter_map, flat_map}
+use Rattle.std.specs.Prelude.{find, Option, None, Some, is_none, option_to_list, Result, Ok, Err, bytes_eq, ◌==◌, ltb, leb}
 use Rattle.std.specs.List.{AllByRecursion}
 use Rattle.cable_base.specs.Names.{is_reserved}
 use Rattle.cable_json.specs.Texts.{confirm_text, reject_text, message_text, disconnect_text}
@@ -12,6 +13,7 @@ use Rattle.channel_book.specs.declared.answers.Answer.{Answer}
 use Rattle.channel_book.specs.declared.answers.Cast.{Cast}
 use Rattle.channel_book.specs.declared.answers.CallFault.{CallFault}
 use Rattle.channel_book.specs.declared.answers.CallFault.TheVariants as call_fault
+pub use Rattle.channel_book.specs.Callbacks.{Callbacks}
 use Rattle.cable_model.specs.declared.notes.Note.{Note}
 use Rattle.cable_model.specs.declared.notes.Note.TheVariants as note
 use Rattle.cable_model.specs.declared.pieces.Piece.{Piece}
@@ -24,13 +26,6 @@ use Rattle.cable_model.specs.declared.plans.Plan.{Plan}
 use Rattle.cable_model.specs.declared.plans.Change.TheVariants as change
 use Rattle.cable_model.specs.Limits.{most_name, most_payload, most_streams, most_subscriptions}
 use Rattle.cable_model.specs.Connection.{Want, Sub, Conn, Planner, among}
-
--- the application's side of a session. Each answer is a function of the user and the identifier, and for `perform` of the payload
-pub record Callbacks : Type 0 where
-  pub identify : (token : List ℕ) → Option (List ℕ)
-  pub subscribed : (user identifier : List ℕ) → Result Answer CallFault
-  pub unsubscribed : (user identifier : List ℕ) → Result Answer CallFault
-  pub perform : (user identifier payload : List ℕ) → Result Answer CallFault
 
 -- ---- the task of a piece
 
@@ -154,7 +149,8 @@ abbrev pub notes_left : Result Answer CallFault → List Note
 notes_left (Ok answer) = []
 notes_left (Err fault) = fault_notes fault
 
--- a rejected subscription: `unsubscribed` is called, the says are said, and then the rejection. `why` is the note of its first bad stream, if that was the cause
+-- a rejected subscription: `unsubscribed` is called, the says are said, and then the rejection. `why` is the note of its first bad stream, if
+-- that was the cause
 abbrev pub rejection : List Note → (identifier : List ℕ) → Answer → Result Answer CallFault → Plan
 rejection why identifier answer left =
     record {
@@ -186,7 +182,8 @@ unless_bad (why ∷ _) identifier answer left = rejection (why ∷ []) identifie
 -- what `subscribed` answered, and what `unsubscribed` would answer. A subscription that was rejected by its answer gives no note of a stream
 abbrev pub subscribe_plan : (identifier : List ℕ) → Result Answer CallFault → Result Answer CallFault → Plan
 subscribe_plan identifier (Err fault) left = noted (fault_notes fault)
-subscribe_plan identifier (Ok answer) left = cond answer.rejected (rejection [] identifier answer left) (unless_bad (stream_notes [] answer.streams) identifier answer left)
+subscribe_plan identifier (Ok answer) left =
+    cond answer.rejected (rejection [] identifier answer left) (unless_bad (stream_notes [] answer.streams) identifier answer left)
 
 -- the subscription ends without a reply
 abbrev pub unsubscribe_plan : (identifier : List ℕ) → Result Answer CallFault → Plan

@@ -1,9 +1,9 @@
 -- The one line of an event, and a script written out with a line for each event.
-use Rattle.std.specs.Prelude.{◌≡◌, ℕ, ◌≤◌, List, [], ◌∷◌, ◌++◌, length, flat_map, codes, decimal, IsUtf8}
-use Rattle.cable_base.specs.Squeeze.{squeezed, IsSqueezedJson}
+use Rattle.std.specs.Prelude.{ℕ, List, [], ◌∷◌, ◌++◌, flat_map, codes, decimal, IsUtf8}
+use Rattle.cable_base.specs.Squeeze.{squeezed}
 use Rattle.cable_model.specs.declared.events.Event.{Event}
 use Rattle.cable_model.specs.declared.events.Event.TheVariants.{Boot, Open, In, Drop, Stop, Take, Put, Finish, Cast, Trim, Ask, Read, Deliver, Beat, Fault}
-use Rattle.cable_model.specs.Limits.{CanBeRow}
+use Rattle.cable_model.specs.Limits.{CanBeRow, most_batch}
 use Rattle.cable_model.specs.Script.{Script, IsConn, IsFrom, IsMoment, IsNode, IsWord, HasNoFeed, book_line, events_of, header, spaced}
 use Rattle.cable_model.specs.Transcript.{ended}
 
@@ -46,7 +46,7 @@ CanBePrinted (Take conn) = IsConn conn
 CanBePrinted (Put conn at) = IsConn conn × IsMoment at
 CanBePrinted (Finish conn) = IsConn conn
 CanBePrinted (Cast at channel payload) = IsMoment at × IsLineWord channel × IsRest payload × CanBeRow channel payload
-CanBePrinted (Trim now retention batch) = IsMoment now × IsMoment retention × IsFrom 1 1000 batch
+CanBePrinted (Trim now retention batch) = IsMoment now × IsMoment retention × IsFrom 1 most_batch batch
 CanBePrinted (Ask node) = IsNode node
 CanBePrinted (Read node) = IsNode node
 CanBePrinted (Deliver node) = IsNode node

@@ -9,11 +9,10 @@ use Rattle.cable_base.specs.Squeeze.{squeezed}
 use Rattle.cable_base.specs.Hash.{channel_hash_of}
 use Rattle.channel_book.specs.Shapes.{Declared}
 use Rattle.channel_book.specs.Books.{book_of}
-use Rattle.channel_book.specs.Answers.{identified_by, subscribed_by, unsubscribed_by, performed_by}
+use Rattle.channel_book.specs.Answers.{callbacks_of}
 use Rattle.cable_model.specs.declared.events.Event.{Event}
 use Rattle.cable_model.specs.declared.events.Event.TheVariants.{Boot, Open, In, Drop, Stop, Take, Put, Finish, Cast, Trim, Ask, Read, Deliver, Beat, Fault}
-use Rattle.cable_model.specs.Limits.{most_name, most_payload, most_line, page_rows}
-use Rattle.cable_model.specs.Plans.{Callbacks}
+use Rattle.cable_model.specs.Limits.{most_name, most_payload, most_line, last_node, last_conn, last_moment, most_batch, most_puts, page_rows}
 use Rattle.cable_model.specs.History.{Rules}
 use Rattle.cable_model.specs.declared.verbs.Verb.{Verb}
 use Rattle.cable_model.specs.declared.verbs.Verb.TheVariants.{One, Work, Poll}
@@ -46,14 +45,14 @@ abbrev pub IsFrom : ℕ → ℕ → ℕ → Type 0
 IsFrom low high n = (low ≤ n) × (n ≤ high)
 
 abbrev pub IsNode : NodeNo → Type 0
-IsNode node = IsFrom 1 8 node.0
+IsNode node = IsFrom 1 last_node node.0
 
 abbrev pub IsConn : ConnNo → Type 0
-IsConn conn = IsFrom 1 999999999 conn.0
+IsConn conn = IsFrom 1 last_conn conn.0
 
--- below 2^53
+-- from 0 to the last moment
 abbrev pub IsMoment : Millis → Type 0
-IsMoment at = IsFrom 0 9007199254740991 at.0
+IsMoment at = IsFrom 0 last_moment at.0
 
 -- ---- the lines
 
@@ -68,7 +67,8 @@ pub record IsCast (channel json payload : List ℕ) : Type 0 where
 -- the line of an event
 abbrev pub SpellsEvent : Event → List ℕ → Type 0
 SpellsEvent (Boot node) line = IsNode node × (line ≡ spaced (codes "boot" ∷ decimal node.0 ∷ []))
-SpellsEvent (Open node conn token) line = IsNode node × IsConn conn × IsWord token × (line ≡ spaced (codes "open" ∷ decimal node.0 ∷ decimal conn.0 ∷ token ∷ []))
+SpellsEvent (Open node conn token) line =
+    IsNode node × IsConn conn × IsWord token × (line ≡ spaced (codes "open" ∷ decimal node.0 ∷ decimal conn.0 ∷ token ∷ []))
 SpellsEvent (In conn text) line = IsConn conn × (line ≡ spaced (codes "in" ∷ decimal conn.0 ∷ text ∷ []))
 SpellsEvent (Drop conn) line = IsConn conn × (line ≡ spaced (codes "drop" ∷ decimal conn.0 ∷ []))
 SpellsEvent (Stop node) line = IsNode node × (line ≡ spaced (codes "stop" ∷ decimal node.0 ∷ []))
@@ -78,7 +78,8 @@ SpellsEvent (Finish conn) line = IsConn conn × (line ≡ spaced (codes "finish"
 SpellsEvent (Cast at channel payload) line =
     (json : List ℕ) × (IsMoment at × IsCast channel json payload × (line ≡ spaced (codes "cast" ∷ decimal at.0 ∷ channel ∷ json ∷ [])))
 SpellsEvent (Trim now retention batch) line =
-    IsMoment now × IsMoment retention × IsFrom 1 1000 batch × (line ≡ spaced (codes "trim" ∷ decimal now.0 ∷ decimal retention.0 ∷ decimal batch ∷ []))
+    IsMoment now × IsMoment retention × IsFrom 1 most_batch batch
+    × (line ≡ spaced (codes "trim" ∷ decimal now.0 ∷ decimal retention.0 ∷ decimal batch ∷ []))
 SpellsEvent (Ask node) line = IsNode node × (line ≡ spaced (codes "ask" ∷ decimal node.0 ∷ []))
 SpellsEvent (Read node) line = IsNode node × (line ≡ spaced (codes "read" ∷ decimal node.0 ∷ []))
 SpellsEvent (Deliver node) line = IsNode node × (line ≡ spaced (codes "deliver" ∷ decimal node.0 ∷ []))
@@ -88,13 +89,14 @@ SpellsEvent Fault line = line ≡ codes "fault"
 -- the line of a verb
 abbrev pub Spells : Verb → List ℕ → Type 0
 Spells (One event) line = SpellsEvent event line
-Spells (Work conn at puts) line = IsConn conn × IsMoment at × IsFrom 0 1000 puts × (line ≡ spaced (codes "work" ∷ decimal conn.0 ∷ decimal at.0 ∷ decimal puts ∷ []))
+Spells (Work conn at puts) line =
+    IsConn conn × IsMoment at × IsFrom 0 most_puts puts × (line ≡ spaced (codes "work" ∷ decimal conn.0 ∷ decimal at.0 ∷ decimal puts ∷ []))
 Spells (Poll node) line = IsNode node × (line ≡ spaced (codes "poll" ∷ decimal node.0 ∷ []))
 
 abbrev pub HasNoFeed : List ℕ → Type 0
 HasNoFeed bytes = list_any (λ b. b == 10) bytes ≡ false
 
--- what may stand between two line feeds: UTF-8 of at most 1,200,000 bytes
+-- what may stand between two line feeds: UTF-8 of at most `most_line` bytes
 pub record IsLine (line : List ℕ) : Type 0 where
   pub utf8 : IsUtf8 line
   pub short : length line ≤ most_line
@@ -139,10 +141,6 @@ abbrev pub events_of : Script → List Event
 events_of s = expand_all s.verbs
 
 -- ---- the rules of a session
-
--- the callbacks that a book stands for
-abbrev pub callbacks_of : Declared → Callbacks
-callbacks_of book = record { identify = identified_by book; subscribed = subscribed_by book; unsubscribed = unsubscribed_by book; perform = performed_by book }
 
 -- the rules under which a script with this book runs
 abbrev pub rules_of : Declared → Rules

@@ -4,6 +4,7 @@ use Rattle.std.specs.List.{list_any}
 use Rattle.cable_base.specs.declared.numbers.ConnNo.{ConnNo}
 use Rattle.cable_base.specs.declared.numbers.NodeNo.{NodeNo}
 use Rattle.cable_base.specs.declared.numbers.Millis.{Millis}
+use Rattle.cable_model.specs.Limits.{most_batch, most_puts}
 use Rattle.cable_model.specs.Script.{spaced, IsWord, IsFrom, IsNode, IsConn, IsMoment}
 use Rattle.cable_model.specs.declared.verb_names.VerbName.{VerbName}
 use Rattle.cable_model.specs.declared.verb_names.VerbName.TheVariants as name
@@ -76,8 +77,8 @@ abbrev pub IsInRange : Kind → List ℕ → Type 0
 IsInRange Node word = (node : NodeNo) × IsNode node × (word ≡ decimal node.0)
 IsInRange Connection word = (conn : ConnNo) × IsConn conn × (word ≡ decimal conn.0)
 IsInRange Moment word = (at : Millis) × IsMoment at × (word ≡ decimal at.0)
-IsInRange Batch word = (count : ℕ) × IsFrom 1 1000 count × (word ≡ decimal count)
-IsInRange Puts word = (count : ℕ) × IsFrom 0 1000 count × (word ≡ decimal count)
+IsInRange Batch word = (count : ℕ) × IsFrom 1 most_batch count × (word ≡ decimal count)
+IsInRange Puts word = (count : ℕ) × IsFrom 0 most_puts count × (word ≡ decimal count)
 IsInRange Word word = Unit {0}
 IsInRange Rest word = Unit {0}
 

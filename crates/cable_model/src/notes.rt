@@ -22,21 +22,21 @@ pub enum Note {
     UnknownAction,
     /// `unknown-subscription`: the identifier isn't subscribed.
     UnknownSubscription,
-    /// `too-many-subscriptions`: 100 subscriptions stand.
+    /// `too-many-subscriptions`: `MOST_SUBSCRIPTIONS` subscriptions stand.
     TooManySubscriptions,
     /// `reserved-stream`: a stream's name begins with `action_cable/`.
     ReservedStream,
-    /// `name-too-long`: a stream's or a broadcast's name has over 1,024 bytes.
+    /// `name-too-long`: a stream's or a broadcast's name has over `MOST_NAME` bytes.
     NameTooLong,
-    /// `too-many-streams`: the subscription has 100 streams.
+    /// `too-many-streams`: the subscription has `MOST_STREAMS` streams.
     TooManyStreams,
     /// `reserved-cast`: a callback's broadcast goes to a name that begins with `action_cable/`.
     ReservedCast,
-    /// `payload-too-long`: a callback's broadcast has over 1,048,576 bytes.
+    /// `payload-too-long`: a callback's broadcast has over `MOST_PAYLOAD` bytes.
     PayloadTooLong,
-    /// `busy`: 256 commands of the connection wait.
+    /// `busy`: `MOST_WAITING` commands of the connection wait.
     Busy,
-    /// `too-long`: a command's text has over 65,536 bytes.
+    /// `too-long`: a command's text has over `MOST_TEXT` bytes.
     TooLong,
     /// `store-refused`: a commit, a trim or a read failed.
     StoreRefused,

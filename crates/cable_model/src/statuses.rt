@@ -23,7 +23,7 @@ pub enum BreakReason {
     BadNumber,
     /// The JSON of a cast isn't read by `serde_json`.
     BadJson,
-    /// The name of a cast has over 1,024 bytes, or its payload without white space over 1,048,576.
+    /// The name of a cast has over `MOST_NAME` bytes, or its payload without white space over `MOST_PAYLOAD`.
     TooLarge,
 }
 
@@ -57,7 +57,7 @@ pub enum Status {
     BadBook { fault: BookFault },
     /// The script ends within a line: its last bytes have no line feed.
     Unended,
-    /// This line, counted from 1, is the first with over 1,200,000 bytes.
+    /// This line, counted from 1, is the first with over `MOST_LINE` bytes.
     TooLong { line: u64 },
     /// The source failed.
     ReadFault,
@@ -69,7 +69,7 @@ pub enum Status {
     StoreFault,
     /// A socket, or what accepts them, failed.
     NetFault,
-    /// The source gave over 2^40 bytes.
+    /// The source gave over `MOST_SCRIPT` bytes.
     TooMuch,
 }
 

@@ -1,5 +1,6 @@
 -- Each kind of line is read exactly where it spells its verb.
-use Rattle.std.proofs.Common.{◌≡◌, ℕ, ◌≤◌, List, ◌∷◌, ◌++◌, length, Bool, true, false, ◌&&◌, cond, Option, Some, None, Result, Ok, Err, refl, sym, ap, subst, ◌∙◌, arith}
+use Rattle.std.proofs.Common.{◌≡◌, ℕ, ◌≤◌, List, ◌∷◌, ◌++◌, length, Bool, true, false, ◌&&◌, cond, Option, Some, None, Result, Ok, Err, refl, sym, ap}
+use Rattle.std.proofs.Common.{subst, ◌∙◌, arith}
 use Rattle.std.specs.Prelude.{decimal, codes, nat_le, IsSome}
 use Rattle.std.proofs.lemmas.Bool.{and_parts, leb-true}
 use Rattle.std.proofs.lemmas.Bool.Decides.{nat_tests}
@@ -9,15 +10,19 @@ use Rattle.cable_base.specs.declared.numbers.ConnNo.{ConnNo}
 use Rattle.cable_base.specs.declared.numbers.NodeNo.{NodeNo}
 use Rattle.cable_base.specs.declared.numbers.Millis.{Millis}
 use Rattle.cable_base.specs.Squeeze.{squeezed}
+use Rattle.cable_model.specs.Limits.{most_batch, most_name, most_payload, most_puts}
 use Rattle.cable_model.specs.declared.events.Event.TheVariants as event
 use Rattle.cable_model.specs.declared.verbs.Verb.{Verb}
 use Rattle.cable_model.specs.declared.verbs.Verb.TheVariants as verb
 use Rattle.cable_model.specs.Script.{IsWord, IsFrom, IsNode, IsConn, IsMoment, IsCast, Spells}
 use Rattle.cable_script.specs.declared.faults.LineFault.{LineFault}
 use Rattle.cable_script.specs.declared.faults.LineFault.TheVariants as fault
-use Rattle.cable_script.specs.Reading.{◌>>=◌, node_alone, conn_alone, boot_in, open_in, text_in, drop_in, stop_in, take_in, put_in, finish_in, work_in, payload_in, cast_of, cast_in, trim_in, ask_in, read_in, deliver_in, poll_in, beat_in}
+use Rattle.cable_script.specs.Reading.{◌>>=◌, node_alone, conn_alone, boot_in, open_in, text_in, drop_in, stop_in, take_in, put_in, finish_in}
+use Rattle.cable_script.specs.Reading.{work_in, payload_in, cast_of, cast_in, trim_in, ask_in, read_in, deliver_in, poll_in, beat_in}
 use Rattle.cable_script.proofs.WordsRead.{next_is, two_are, three_are, two_and_rest_are, next_found, two_found, three_found, two_and_rest_found}
-use Rattle.cable_script.proofs.NumbersRead.{step_is, step_of, same_Ok, given_is, given_of, count_is, count_found, node_is, node_found, conn_is, conn_found, millis_is, millis_found, from_word, node_word, conn_word, millis_word, node_alone_is, node_alone_found, conn_alone_is, conn_alone_found}
+use Rattle.cable_script.proofs.NumbersRead.{step_is, step_of, same_Ok, given_is, given_of, count_is, count_found, node_is, node_found, conn_is}
+use Rattle.cable_script.proofs.NumbersRead.{conn_found, millis_is, millis_found, from_word, node_word, conn_word, millis_word, node_alone_is}
+use Rattle.cable_script.proofs.NumbersRead.{node_alone_found, conn_alone_is, conn_alone_found}
 
 -- ---- what a line spells is read from it
 
@@ -137,7 +142,7 @@ work_is text v e =
     let w = three_are text words.0 (given_is _ _ words.0 words.1.0) in
     let k = conn_is words.0.0 conn.0 conn.1.0 in
     let t = millis_is words.0.1 moment.0 moment.1.0 in
-    let p = count_is 0 1000 puts.0 fault.BadNumber words.0.2 (omega arith) puts.1.0 in
+    let p = count_is 0 most_puts puts.0 fault.BadNumber words.0.2 (omega arith) puts.1.0 in
     let whole = three_whole text words.0.0 words.0.1 words.0.2 (decimal conn.0.0) (decimal moment.0.0) (decimal puts.0) w.parts k.1 t.1 p.1 in
     subst (λ (x : Verb). Spells x (codes "work" ++ 32 ∷ text)) (same_Ok _ v puts.1.1)
     (k.0, t.0, p.0, ap (λ (r : List ℕ). codes "work" ++ 32 ∷ r) whole)
@@ -152,7 +157,7 @@ trim_is text v e =
     let w = three_are text words.0 (given_is _ _ words.0 words.1.0) in
     let t = millis_is words.0.0 now.0 now.1.0 in
     let r = millis_is words.0.1 retention.0 retention.1.0 in
-    let b = count_is 1 1000 batch.0 fault.BadNumber words.0.2 (omega arith) batch.1.0 in
+    let b = count_is 1 most_batch batch.0 fault.BadNumber words.0.2 (omega arith) batch.1.0 in
     let whole = three_whole text words.0.0 words.0.1 words.0.2 (decimal now.0.0) (decimal retention.0.0) (decimal batch.0) w.parts t.1 r.1 b.1 in
     subst (λ (x : Verb). Spells x (codes "trim" ++ 32 ∷ text)) (same_Ok _ v batch.1.1)
     (t.0, r.0, b.0, ap (λ (l : List ℕ). codes "trim" ++ 32 ∷ l) whole)
@@ -172,10 +177,12 @@ taken : {A : Type 0} (b : Bool) (x y : A) (f : LineFault) → cond {A = Result A
 taken true x y f e = (refl, same_Ok x y e)
 taken false x y f e = absurd cc
 
-cast_is_small : (moment : Millis) (channel payload : List ℕ) (v : Verb) → cast_of moment channel payload ≡ Ok v → (length channel ≤ 1024) × (length payload ≤ 1048576) × (verb.One (event.Cast moment channel payload) ≡ v)
+cast_is_small : (moment : Millis) (channel payload : List ℕ) (v : Verb) → cast_of moment channel payload ≡ Ok v
+    → (length channel ≤ most_name) × (length payload ≤ most_payload) × (verb.One (event.Cast moment channel payload) ≡ v)
 unfolding cast_of
 cast_is_small moment channel payload v e =
-    let t = taken (nat_le (length channel) 1024 && nat_le (length payload) 1048576) (verb.One (event.Cast moment channel payload)) v fault.TooLarge e in
+    let fits = nat_le (length channel) most_name && nat_le (length payload) most_payload in
+    let t = taken fits (verb.One (event.Cast moment channel payload)) v fault.TooLarge e in
     let h = and_parts _ _ t.0 in
     (leb-true _ _ h.0, leb-true _ _ h.1, t.1)
 
@@ -261,17 +268,27 @@ text_found conn text h =
     step_of _ _ (decimal conn.0, text) _ (given_of _ _ _ (next_found (decimal conn.0) text (conn_word conn h)))
     (step_of _ _ conn _ (conn_found conn h) refl)
 
-pub work_found : (conn : ConnNo) (moment : Millis) (puts : ℕ) → IsConn conn → IsMoment moment → IsFrom 0 1000 puts → work_in (decimal conn.0 ++ 32 ∷ (decimal moment.0 ++ 32 ∷ decimal puts)) ≡ Ok (verb.Work conn moment puts)
+pub work_found : (conn : ConnNo) (moment : Millis) (puts : ℕ) → IsConn conn → IsMoment moment → IsFrom 0 most_puts puts
+    → work_in (decimal conn.0 ++ 32 ∷ (decimal moment.0 ++ 32 ∷ decimal puts)) ≡ Ok (verb.Work conn moment puts)
 unfolding work_in
 work_found conn moment puts h g k =
-    step_of _ _ (decimal conn.0, decimal moment.0, decimal puts) _ (given_of _ _ _ (three_found (decimal conn.0) (decimal moment.0) (decimal puts) (conn_word conn h) (millis_word moment g) (from_word 0 1000 puts (omega arith) k)))
-    (step_of _ _ conn _ (conn_found conn h) (step_of _ _ moment _ (millis_found moment g) (step_of _ _ puts _ (count_found 0 1000 puts fault.BadNumber (omega arith) k) refl)))
+    step_of _ _ (decimal conn.0, decimal moment.0, decimal puts) _
+    (given_of _ _ _ (three_found (decimal conn.0) (decimal moment.0) (decimal puts)
+    (conn_word conn h) (millis_word moment g) (from_word 0 most_puts puts (omega arith) k)))
+    (step_of _ _ conn _ (conn_found conn h)
+    (step_of _ _ moment _ (millis_found moment g)
+    (step_of _ _ puts _ (count_found 0 most_puts puts fault.BadNumber (omega arith) k) refl)))
 
-pub trim_found : (now retention : Millis) (batch : ℕ) → IsMoment now → IsMoment retention → IsFrom 1 1000 batch → trim_in (decimal now.0 ++ 32 ∷ (decimal retention.0 ++ 32 ∷ decimal batch)) ≡ Ok (verb.One (event.Trim now retention batch))
+pub trim_found : (now retention : Millis) (batch : ℕ) → IsMoment now → IsMoment retention → IsFrom 1 most_batch batch
+    → trim_in (decimal now.0 ++ 32 ∷ (decimal retention.0 ++ 32 ∷ decimal batch)) ≡ Ok (verb.One (event.Trim now retention batch))
 unfolding trim_in
 trim_found now retention batch h g k =
-    step_of _ _ (decimal now.0, decimal retention.0, decimal batch) _ (given_of _ _ _ (three_found (decimal now.0) (decimal retention.0) (decimal batch) (millis_word now h) (millis_word retention g) (from_word 1 1000 batch (omega arith) k)))
-    (step_of _ _ now _ (millis_found now h) (step_of _ _ retention _ (millis_found retention g) (step_of _ _ batch _ (count_found 1 1000 batch fault.BadNumber (omega arith) k) refl)))
+    step_of _ _ (decimal now.0, decimal retention.0, decimal batch) _
+    (given_of _ _ _ (three_found (decimal now.0) (decimal retention.0) (decimal batch)
+    (millis_word now h) (millis_word retention g) (from_word 1 most_batch batch (omega arith) k)))
+    (step_of _ _ now _ (millis_found now h)
+    (step_of _ _ retention _ (millis_found retention g)
+    (step_of _ _ batch _ (count_found 1 most_batch batch fault.BadNumber (omega arith) k) refl)))
 
 json_there : (o : Option Data) → IsSome o → (value : Data) × (o ≡ Some value)
 json_there None s = absurd cc
@@ -281,11 +298,12 @@ payload_found : (json : List ℕ) → IsSome (read json) → payload_in json ≡
 unfolding payload_in
 payload_found json s = let value = json_there (read json) s in step_of _ _ value.0 _ (given_of _ _ _ value.1) refl
 
-small_found : (moment : Millis) (channel payload : List ℕ) → length channel ≤ 1024 → length payload ≤ 1048576 → cast_of moment channel payload ≡ Ok (verb.One (event.Cast moment channel payload))
+small_found : (moment : Millis) (channel payload : List ℕ) → length channel ≤ most_name → length payload ≤ most_payload
+    → cast_of moment channel payload ≡ Ok (verb.One (event.Cast moment channel payload))
 unfolding cast_of
 small_found moment channel payload h g =
-    let short : nat_le (length channel) 1024 ≡ true = grind (arith, nat_tests) in
-    let small : nat_le (length payload) 1048576 ≡ true = grind (arith, nat_tests) in
+    let short : nat_le (length channel) most_name ≡ true = grind (arith, nat_tests) in
+    let small : nat_le (length payload) most_payload ≡ true = grind (arith, nat_tests) in
     rw (short, small) refl
 
 pub cast_found : (moment : Millis) (channel json payload : List ℕ) → IsMoment moment → IsCast channel json payload → cast_in (decimal moment.0 ++ 32 ∷ (channel ++ 32 ∷ json)) ≡ Ok (verb.One (event.Cast moment channel payload))

@@ -4,6 +4,7 @@ use Rattle.std.specs.Prelude.{decimal}
 use Rattle.cable_base.specs.declared.numbers.ConnNo.{ConnNo}
 use Rattle.cable_base.specs.declared.numbers.NodeNo.{NodeNo}
 use Rattle.cable_base.specs.declared.numbers.Millis.{Millis}
+use Rattle.cable_model.specs.Limits.{last_conn, last_moment, last_node}
 use Rattle.cable_model.specs.Script.{IsWord, IsFrom, IsNode, IsConn, IsMoment}
 use Rattle.cable_script.specs.declared.faults.LineFault.{LineFault}
 use Rattle.cable_script.specs.Words.{number_in}
@@ -46,31 +47,31 @@ pub node_is : (word : List ℕ) (node : NodeNo) → node_in word ≡ Ok node →
 unfolding node_in
 node_is word node e =
     let n = step_is _ _ node e in
-    subst (λ (m : NodeNo). IsNode m × (word ≡ decimal m.0)) (same_Ok _ node n.1.1) (count_is 1 8 n.0 _ word (omega arith) n.1.0)
+    subst (λ (m : NodeNo). IsNode m × (word ≡ decimal m.0)) (same_Ok _ node n.1.1) (count_is 1 last_node n.0 _ word (omega arith) n.1.0)
 
 pub node_found : (node : NodeNo) → IsNode node → node_in (decimal node.0) ≡ Ok node
 unfolding node_in
-node_found node h = step_of _ _ node.0 node (count_found 1 8 node.0 _ (omega arith) h) refl
+node_found node h = step_of _ _ node.0 node (count_found 1 last_node node.0 _ (omega arith) h) refl
 
 pub conn_is : (word : List ℕ) (conn : ConnNo) → conn_in word ≡ Ok conn → IsConn conn × (word ≡ decimal conn.0)
 unfolding conn_in
 conn_is word conn e =
     let n = step_is _ _ conn e in
-    subst (λ (m : ConnNo). IsConn m × (word ≡ decimal m.0)) (same_Ok _ conn n.1.1) (count_is 1 999999999 n.0 _ word (omega arith) n.1.0)
+    subst (λ (m : ConnNo). IsConn m × (word ≡ decimal m.0)) (same_Ok _ conn n.1.1) (count_is 1 last_conn n.0 _ word (omega arith) n.1.0)
 
 pub conn_found : (conn : ConnNo) → IsConn conn → conn_in (decimal conn.0) ≡ Ok conn
 unfolding conn_in
-conn_found conn h = step_of _ _ conn.0 conn (count_found 1 999999999 conn.0 _ (omega arith) h) refl
+conn_found conn h = step_of _ _ conn.0 conn (count_found 1 last_conn conn.0 _ (omega arith) h) refl
 
 pub millis_is : (word : List ℕ) (at : Millis) → millis_in word ≡ Ok at → IsMoment at × (word ≡ decimal at.0)
 unfolding millis_in
 millis_is word at e =
     let n = step_is _ _ at e in
-    subst (λ (m : Millis). IsMoment m × (word ≡ decimal m.0)) (same_Ok _ at n.1.1) (count_is 0 9007199254740991 n.0 _ word (omega arith) n.1.0)
+    subst (λ (m : Millis). IsMoment m × (word ≡ decimal m.0)) (same_Ok _ at n.1.1) (count_is 0 last_moment n.0 _ word (omega arith) n.1.0)
 
 pub millis_found : (at : Millis) → IsMoment at → millis_in (decimal at.0) ≡ Ok at
 unfolding millis_in
-millis_found at h = step_of _ _ at.0 at (count_found 0 9007199254740991 at.0 _ (omega arith) h) refl
+millis_found at h = step_of _ _ at.0 at (count_found 0 last_moment at.0 _ (omega arith) h) refl
 
 -- ---- a number is a word, and stands alone
 
@@ -78,13 +79,13 @@ pub from_word : (lo hi n : ℕ) → hi < 2 ^ 64 → IsFrom lo hi n → IsWord (d
 from_word lo hi n fits h = let high = h.1 in number_word n (omega arith)
 
 pub node_word : (node : NodeNo) → IsNode node → IsWord (decimal node.0)
-node_word node h = from_word 1 8 node.0 (omega arith) h
+node_word node h = from_word 1 last_node node.0 (omega arith) h
 
 pub conn_word : (conn : ConnNo) → IsConn conn → IsWord (decimal conn.0)
-conn_word conn h = from_word 1 999999999 conn.0 (omega arith) h
+conn_word conn h = from_word 1 last_conn conn.0 (omega arith) h
 
 pub millis_word : (at : Millis) → IsMoment at → IsWord (decimal at.0)
-millis_word at h = from_word 0 9007199254740991 at.0 (omega arith) h
+millis_word at h = from_word 0 last_moment at.0 (omega arith) h
 
 pub node_alone_is : (text : List ℕ) (node : NodeNo) → node_alone text ≡ Ok node → IsNode node × (text ≡ decimal node.0)
 unfolding node_alone

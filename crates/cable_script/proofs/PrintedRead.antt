@@ -11,7 +11,7 @@ use Rattle.cable_model.specs.declared.events.Event.TheVariants.{Boot, Open, In, 
 use Rattle.cable_model.specs.declared.verb_names.VerbName.{VerbName}
 use Rattle.cable_model.specs.declared.verb_names.VerbName.TheVariants as name
 use Rattle.cable_model.specs.declared.verbs.Verb.TheVariants as verb
-use Rattle.cable_model.specs.Limits.{CanBeRow}
+use Rattle.cable_model.specs.Limits.{CanBeRow, last_conn, last_moment, last_node, most_batch}
 use Rattle.cable_model.specs.Printed.{event_line, CanBePrinted, IsLineWord}
 use Rattle.cable_model.specs.Script.{SpellsEvent, IsCast, IsConn, IsFrom, IsMoment, IsNode}
 use Rattle.cable_model.specs.VerbTable.{spelling}
@@ -53,13 +53,13 @@ number_utf8 : (low high n : ℕ) → high < 2 ^ 64 → IsFrom low high n → IsU
 number_utf8 low high n fits h = IsUtf8-from_ascii (decimal n) (IsAscii-decimal n (let most = h.1 in omega (arith, fits, most)))
 
 node_utf8 : (node : NodeNo) → IsNode node → IsUtf8 (decimal node.0)
-node_utf8 node h = number_utf8 1 8 node.0 (omega arith) h
+node_utf8 node h = number_utf8 1 last_node node.0 (omega arith) h
 
 conn_utf8 : (conn : ConnNo) → IsConn conn → IsUtf8 (decimal conn.0)
-conn_utf8 conn h = number_utf8 1 999999999 conn.0 (omega arith) h
+conn_utf8 conn h = number_utf8 1 last_conn conn.0 (omega arith) h
 
 moment_utf8 : (moment : Millis) → IsMoment moment → IsUtf8 (decimal moment.0)
-moment_utf8 moment h = number_utf8 0 9007199254740991 moment.0 (omega arith) h
+moment_utf8 moment h = number_utf8 0 last_moment moment.0 (omega arith) h
 
 -- ---- the line of an event
 
@@ -73,7 +73,9 @@ line_utf8 (Take conn) h = behind name.Take _ (conn_utf8 conn h)
 line_utf8 (Put conn moment) h = behind name.Put _ (joined _ _ (conn_utf8 conn h.0) (moment_utf8 moment h.1))
 line_utf8 (Finish conn) h = behind name.Finish _ (conn_utf8 conn h)
 line_utf8 (Cast moment channel payload) h = behind name.Cast _ (joined _ _ (moment_utf8 moment h.0) (joined _ _ h.1.rest.utf8 h.2.utf8))
-line_utf8 (Trim now retention batch) h = behind name.Trim _ (joined _ _ (moment_utf8 now h.0) (joined _ _ (moment_utf8 retention h.1) (number_utf8 1 1000 batch (omega arith) h.2)))
+line_utf8 (Trim now retention batch) h =
+    behind name.Trim _ (joined _ _ (moment_utf8 now h.0)
+    (joined _ _ (moment_utf8 retention h.1) (number_utf8 1 most_batch batch (omega arith) h.2)))
 line_utf8 (Ask node) h = behind name.Ask _ (node_utf8 node h)
 line_utf8 (Read node) h = behind name.Read _ (node_utf8 node h)
 line_utf8 (Deliver node) h = behind name.Deliver _ (node_utf8 node h)

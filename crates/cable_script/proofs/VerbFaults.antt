@@ -1,5 +1,6 @@
 -- What the reading of each verb answers is what the table of verbs says: the words first, then the numbers, then what a cast commits.
-use Rattle.std.proofs.Common.{◌≡◌, ℕ, ◌^◌, ◌<◌, List, [], ◌∷◌, length, Bool, true, false, ◌&&◌, cond, Option, Some, None, Result, Ok, Err, refl, sym, ap, ◌∙◌, arith}
+use Rattle.std.proofs.Common.{◌≡◌, ℕ, ◌^◌, ◌<◌, List, [], ◌∷◌, length, Bool, true, false, ◌&&◌, cond, Option, Some, None, Result, Ok, Err, refl, sym}
+use Rattle.std.proofs.Common.{ap, ◌∙◌, arith}
 use Rattle.std.specs.Prelude.{decimal, nat_le}
 use Rattle.std.specs.Option.{option_map, is_some}
 use Rattle.std.specs.Result.{result_err}
@@ -10,7 +11,7 @@ use Rattle.cable_base.specs.declared.numbers.ConnNo.{ConnNo}
 use Rattle.cable_base.specs.declared.numbers.NodeNo.{NodeNo}
 use Rattle.cable_base.specs.declared.numbers.Millis.{Millis}
 use Rattle.cable_base.specs.Squeeze.{squeezed}
-use Rattle.cable_model.specs.Limits.{most_name, most_payload}
+use Rattle.cable_model.specs.Limits.{most_name, most_payload, last_conn, last_moment, last_node, most_batch, most_puts}
 use Rattle.cable_model.specs.Script.{IsFrom}
 use Rattle.cable_model.specs.declared.events.Event.TheVariants as event
 use Rattle.cable_model.specs.declared.verbs.Verb.{Verb}
@@ -21,7 +22,9 @@ use Rattle.cable_model.specs.declared.verb_names.VerbName.{VerbName}
 use Rattle.cable_model.specs.declared.verb_names.VerbName.TheVariants as name
 use Rattle.cable_model.specs.VerbTable.{Kind, Node, Connection, Moment, Batch, Puts, Word, Rest, kinds_behind, IsInRange, Each}
 use Rattle.cable_script.specs.Words.{next_word, one_word, two_words, three_words, two_words_and_rest, number_in}
-use Rattle.cable_script.specs.Reading.{◌>>=◌, or_fault, node_in, conn_in, millis_in, node_alone, conn_alone, boot_in, open_in, text_in, drop_in, stop_in, take_in, put_in, finish_in, work_in, payload_in, cast_of, cast_in, trim_in, ask_in, read_in, deliver_in, poll_in, beat_in, verb_with, verb_alone, verb_behind}
+use Rattle.cable_script.specs.Reading.{◌>>=◌, or_fault, node_in, conn_in, millis_in, node_alone, conn_alone, boot_in, open_in, text_in, drop_in}
+use Rattle.cable_script.specs.Reading.{stop_in, take_in, put_in, finish_in, work_in, payload_in, cast_of, cast_in, trim_in, ask_in, read_in}
+use Rattle.cable_script.specs.Reading.{deliver_in, poll_in, beat_in, verb_with, verb_alone, verb_behind}
 use Rattle.cable_script.proofs.Spellings.{number_is, number_of_decimal}
 use Rattle.cable_script.proofs.LineWords.{words_in, words_of, two, three, one_in, two_in, three_in, next_in, rest_in}
 
@@ -29,11 +32,11 @@ use Rattle.cable_script.proofs.LineWords.{words_in, words_of, two, three, one_in
 
 -- a word is a number of its kind, where the kind has numbers
 abbrev passes : Kind → List ℕ → Bool
-passes Node word = is_some (number_in 1 8 word)
-passes Connection word = is_some (number_in 1 999999999 word)
-passes Moment word = is_some (number_in 0 9007199254740991 word)
-passes Batch word = is_some (number_in 1 1000 word)
-passes Puts word = is_some (number_in 0 1000 word)
+passes Node word = is_some (number_in 1 last_node word)
+passes Connection word = is_some (number_in 1 last_conn word)
+passes Moment word = is_some (number_in 0 last_moment word)
+passes Batch word = is_some (number_in 1 most_batch word)
+passes Puts word = is_some (number_in 0 most_puts word)
 passes Word word = true
 passes Rest word = true
 
@@ -54,11 +57,17 @@ number_Decides low high word fits = (λ e. given (number_in low high word) refl 
     found (n, f, e) = ap (λ (w : List ℕ). is_some (number_in low high w)) e ∙ ap (λ (o : Option ℕ). is_some o) (number_of_decimal low high n fits f.0 f.1)
 
 passes_Decides : (kind : Kind) (word : List ℕ) → Decides (passes kind word) (IsInRange kind word)
-passes_Decides Node word = let d = number_Decides 1 8 word (omega arith) in (λ e. let h = d.0 e in (record { 0 = h.0 }, h.1, h.2), λ h. d.1 (h.0.0, h.1, h.2))
-passes_Decides Connection word = let d = number_Decides 1 999999999 word (omega arith) in (λ e. let h = d.0 e in (record { 0 = h.0 }, h.1, h.2), λ h. d.1 (h.0.0, h.1, h.2))
-passes_Decides Moment word = let d = number_Decides 0 9007199254740991 word (omega arith) in (λ e. let h = d.0 e in (record { 0 = h.0 }, h.1, h.2), λ h. d.1 (h.0.0, h.1, h.2))
-passes_Decides Batch word = number_Decides 1 1000 word (omega arith)
-passes_Decides Puts word = number_Decides 0 1000 word (omega arith)
+passes_Decides Node word =
+    let d = number_Decides 1 last_node word (omega arith) in
+    (λ e. let h = d.0 e in (record { 0 = h.0 }, h.1, h.2), λ h. d.1 (h.0.0, h.1, h.2))
+passes_Decides Connection word =
+    let d = number_Decides 1 last_conn word (omega arith) in
+    (λ e. let h = d.0 e in (record { 0 = h.0 }, h.1, h.2), λ h. d.1 (h.0.0, h.1, h.2))
+passes_Decides Moment word =
+    let d = number_Decides 0 last_moment word (omega arith) in
+    (λ e. let h = d.0 e in (record { 0 = h.0 }, h.1, h.2), λ h. d.1 (h.0.0, h.1, h.2))
+passes_Decides Batch word = number_Decides 1 most_batch word (omega arith)
+passes_Decides Puts word = number_Decides 0 most_puts word (omega arith)
 passes_Decides Word word = (λ e. tt, λ h. refl)
 passes_Decides Rest word = (λ e. tt, λ h. refl)
 
@@ -109,17 +118,17 @@ count_step (Some n) k b last h = h n
 node_step : (word : List ℕ) (k : NodeNo → Result Verb LineFault) (b : Bool) (last : Option LineFault) → ((node : NodeNo) → result_err (k node) ≡ cond b last (Some fault.BadNumber))
     → result_err (node_in word >>= k) ≡ cond (cond (passes Node word) b false) last (Some fault.BadNumber)
 unfolding node_in
-node_step word k b last h = made_step (number_in 1 8 word) (λ n. record { 0 = n }) k b last h
+node_step word k b last h = made_step (number_in 1 last_node word) (λ n. record { 0 = n }) k b last h
 
 conn_step : (word : List ℕ) (k : ConnNo → Result Verb LineFault) (b : Bool) (last : Option LineFault) → ((conn : ConnNo) → result_err (k conn) ≡ cond b last (Some fault.BadNumber))
     → result_err (conn_in word >>= k) ≡ cond (cond (passes Connection word) b false) last (Some fault.BadNumber)
 unfolding conn_in
-conn_step word k b last h = made_step (number_in 1 999999999 word) (λ n. record { 0 = n }) k b last h
+conn_step word k b last h = made_step (number_in 1 last_conn word) (λ n. record { 0 = n }) k b last h
 
 moment_step : (word : List ℕ) (k : Millis → Result Verb LineFault) (b : Bool) (last : Option LineFault) → ((at : Millis) → result_err (k at) ≡ cond b last (Some fault.BadNumber))
     → result_err (millis_in word >>= k) ≡ cond (cond (passes Moment word) b false) last (Some fault.BadNumber)
 unfolding millis_in
-moment_step word k b last h = made_step (number_in 0 9007199254740991 word) (λ n. record { 0 = n }) k b last h
+moment_step word k b last h = made_step (number_in 0 last_moment word) (λ n. record { 0 = n }) k b last h
 
 -- ---- verbs
 
@@ -221,14 +230,14 @@ work_faults : (text : List ℕ) → result_err (work_in text) ≡ faults_of name
 unfolding work_in
 work_faults text =
     words_step (three_words text) three _ (kinds_behind name.Work) (last_of name.Work)
-    (λ p. conn_step p.0 _ _ None (λ conn. moment_step p.1 _ _ None (λ moment. count_step (number_in 0 1000 p.2) _ true None (λ puts. refl))))
+    (λ p. conn_step p.0 _ _ None (λ conn. moment_step p.1 _ _ None (λ moment. count_step (number_in 0 most_puts p.2) _ true None (λ puts. refl))))
     ∙ ap (faults_of name.Work) (sym (three_in Connection Moment Puts text refl))
 
 trim_faults : (text : List ℕ) → result_err (trim_in text) ≡ faults_of name.Trim (words_in (kinds_behind name.Trim) text)
 unfolding trim_in
 trim_faults text =
     words_step (three_words text) three _ (kinds_behind name.Trim) (last_of name.Trim)
-    (λ p. moment_step p.0 _ _ None (λ now. moment_step p.1 _ _ None (λ retention. count_step (number_in 1 1000 p.2) _ true None (λ batch. refl))))
+    (λ p. moment_step p.0 _ _ None (λ now. moment_step p.1 _ _ None (λ retention. count_step (number_in 1 most_batch p.2) _ true None (λ batch. refl))))
     ∙ ap (faults_of name.Trim) (sym (three_in Moment Moment Batch text refl))
 
 -- the sizes of a cast

@@ -7,7 +7,7 @@ use Rattle.cable_base.specs.declared.numbers.ConnNo.{ConnNo}
 use Rattle.cable_base.specs.declared.numbers.NodeNo.{NodeNo}
 use Rattle.cable_base.specs.declared.numbers.Millis.{Millis}
 use Rattle.cable_base.specs.Squeeze.{squeezed}
-use Rattle.cable_model.specs.Limits.{most_name, most_payload}
+use Rattle.cable_model.specs.Limits.{most_name, most_payload, last_node, last_conn, last_moment, most_batch, most_puts}
 use Rattle.cable_model.specs.declared.events.Event.TheVariants as event
 use Rattle.cable_model.specs.declared.verbs.Verb.{Verb}
 use Rattle.cable_model.specs.declared.verbs.Verb.TheVariants as verb
@@ -32,25 +32,25 @@ abbrev pub ◌>>=◌ : {A B : Type 0} → Result A LineFault → (A → Result B
 
 unfoldable pub node_in : List ℕ → Result NodeNo LineFault
 node_in word = do
-  n ← or_fault fault.BadNumber (number_in 1 8 word)
+  n ← or_fault fault.BadNumber (number_in 1 last_node word)
   Ok (record { 0 = n })
 
 unfoldable pub conn_in : List ℕ → Result ConnNo LineFault
 conn_in word = do
-  n ← or_fault fault.BadNumber (number_in 1 999999999 word)
+  n ← or_fault fault.BadNumber (number_in 1 last_conn word)
   Ok (record { 0 = n })
 
--- a moment or a span, below 2^53
+-- a moment or a span
 unfoldable pub millis_in : List ℕ → Result Millis LineFault
 millis_in word = do
-  n ← or_fault fault.BadNumber (number_in 0 9007199254740991 word)
+  n ← or_fault fault.BadNumber (number_in 0 last_moment word)
   Ok (record { 0 = n })
 
 abbrev pub batch_in : List ℕ → Result ℕ LineFault
-batch_in word = or_fault fault.BadNumber (number_in 1 1000 word)
+batch_in word = or_fault fault.BadNumber (number_in 1 most_batch word)
 
 abbrev pub puts_in : List ℕ → Result ℕ LineFault
-puts_in word = or_fault fault.BadNumber (number_in 0 1000 word)
+puts_in word = or_fault fault.BadNumber (number_in 0 most_puts word)
 
 -- ---- what stands behind each verb
 

@@ -13,7 +13,7 @@ pub enum LineFault {
     BadNumber,
     /// The JSON of a cast isn't read by `serde_json`.
     BadJson,
-    /// The name of a cast has over 1,024 bytes, or its payload without white space over 1,048,576.
+    /// The name of a cast has over `MOST_NAME` bytes, or its payload without white space over `MOST_PAYLOAD`.
     TooLarge,
     OutOfMemory,
 }

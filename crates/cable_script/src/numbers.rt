@@ -7,17 +7,9 @@ ghost use Rattle.cable_script.specs.Reading.{Gives, node_in, conn_in, millis_in,
 
 use crate::faults::LineFault;
 use crate::words::one_word;
-use cable_base::{ConnNo, Millis, NodeNo};
-
-const LAST_NODE: u64 = 8;
-
-const LAST_CONN: u64 = 999_999_999;
-
-const LAST_MOMENT: u64 = 9_007_199_254_740_991;
-
-const LARGEST_BATCH: u64 = 1_000;
-
-const MOST_PUTS: u64 = 1_000;
+use cable_base::{
+    ConnNo, LAST_CONN, LAST_MOMENT, LAST_NODE, MOST_BATCH, MOST_PUTS, Millis, NodeNo,
+};
 
 fn all_digits(word: &str) -> bool
     ensures { result ≡ list_all is_ascii_digit word.now }
@@ -53,7 +45,7 @@ pub fn number_in(low: u64, high: u64, word: &str) -> Option<u64>
     }
 }
 
-/// The number of a node, from 1 to 8.
+/// The number of a node, from 1 to `LAST_NODE`.
 #[tactic(auto, unfolding(crate::specs::Reading::node_in))]
 pub fn node_in(word: &str) -> Result<NodeNo, LineFault>
     ensures { Gives result (node_in word.now) }
@@ -64,7 +56,7 @@ pub fn node_in(word: &str) -> Result<NodeNo, LineFault>
     }
 }
 
-/// The number of a connection, from 1 to 999,999,999.
+/// The number of a connection, from 1 to `LAST_CONN`.
 #[tactic(auto, unfolding(crate::specs::Reading::conn_in))]
 pub fn conn_in(word: &str) -> Result<ConnNo, LineFault>
     ensures { Gives result (conn_in word.now) }
@@ -75,7 +67,7 @@ pub fn conn_in(word: &str) -> Result<ConnNo, LineFault>
     }
 }
 
-/// A moment or a span in milliseconds, below 2^53.
+/// A moment or a span in milliseconds, up to `LAST_MOMENT`.
 #[tactic(auto, unfolding(crate::specs::Reading::millis_in))]
 pub fn millis_in(word: &str) -> Result<Millis, LineFault>
     ensures { Gives result (millis_in word.now) }
@@ -86,14 +78,14 @@ pub fn millis_in(word: &str) -> Result<Millis, LineFault>
     }
 }
 
-/// How many rows a trim takes at most, from 1 to 1,000.
+/// How many rows a trim takes at most, from 1 to `MOST_BATCH`.
 pub fn batch_in(word: &str) -> Result<u64, LineFault>
     ensures { Gives result (batch_in word.now) }
 {
-    number_in(1, LARGEST_BATCH, word).ok_or(LineFault::BadNumber)
+    number_in(1, MOST_BATCH, word).ok_or(LineFault::BadNumber)
 }
 
-/// How many broadcasts a worker commits, from 0 to 1,000.
+/// How many broadcasts a worker commits, from 0 to `MOST_PUTS`.
 pub fn puts_in(word: &str) -> Result<u64, LineFault>
     ensures { Gives result (puts_in word.now) }
 {

@@ -4,14 +4,10 @@ ghost use Rattle.cable_script.specs.Reading.{Gives, payload_in, cast_of, cast_in
 use crate::faults::LineFault;
 use crate::numbers::{batch_in, millis_in};
 use crate::words::{three_words, two_words_and_rest};
-use cable_base::{Millis, Name, Text, squeeze};
+use cable_base::{MOST_NAME, MOST_PAYLOAD, Millis, Name, Text, squeeze};
 use cable_json::read_json;
 use cable_model::{Event, Verb};
 use std::alloc::Global;
-
-const MOST_NAME_BYTES: usize = 1_024;
-
-const MOST_PAYLOAD_BYTES: usize = 1_048_576;
 
 /// The JSON without its white space.
 #[tactic(auto, unfolding(crate::specs::Reading::payload_in))]
@@ -28,7 +24,7 @@ fn payload_in(alloc: Global, json: &str) -> Result<Text, LineFault>
 fn cast_of(alloc: Global, at: Millis, channel: &str, payload: Text) -> Result<Verb, LineFault>
     ensures { Gives result (cast_of at channel.now payload) }
 {
-    if channel.len() > MOST_NAME_BYTES || payload.as_str().len() > MOST_PAYLOAD_BYTES {
+    if channel.len() > MOST_NAME || payload.as_str().len() > MOST_PAYLOAD {
         return Err(LineFault::TooLarge);
     }
     let channel = Name::new(alloc, channel)?;

@@ -1,5 +1,6 @@
 -- What a book answers.
-use Rattle.std.specs.Prelude.{ℕ, Bool, true, false, not, List, [], ◌∷◌, map, codes, Option, Some, None, is_some, option_and_then, option_map, find, Result, Ok, if◌then◌else◌}
+use Rattle.std.specs.Prelude.{ℕ, Bool, true, false, not, List, [], ◌∷◌, map, codes, Option, Some, None, is_some, option_and_then, option_map, find}
+use Rattle.std.specs.Prelude.{Result, Ok, if◌then◌else◌}
 use Rattle.std.specs.List.{list_all}
 use Rattle.std.specs.Option.{option_or}
 use Rattle.serde_json.specs.Data.{Data, null, boolean, number, string, array, object, no_items, item, no_members, member}
@@ -19,6 +20,7 @@ use Rattle.channel_book.specs.Json.{text_at}
 use Rattle.channel_book.specs.Names.{is_named}
 use Rattle.channel_book.specs.Parameters.{can_fill}
 use Rattle.channel_book.specs.Templates.{filling}
+use Rattle.channel_book.specs.Callbacks.{Callbacks}
 use Rattle.channel_book.specs.Shapes.{Users, Declared}
 
 -- ---- who and where
@@ -70,14 +72,26 @@ echo_of echo payload = if echo then payload ∷ [] else []
 
 abbrev pub beginning : List ℕ → Data → Channel → Answer
 beginning user identifier channel =
-    record { rejected = false; streams = names_of user identifier channel.rules.streams; stops = []; says = channel.rules.says; casts = casts_of user identifier channel.rules.enter }
+    record {
+      rejected = false;
+      streams = names_of user identifier channel.rules.streams;
+      stops = [];
+      says = channel.rules.says;
+      casts = casts_of user identifier channel.rules.enter;
+    }
 
 abbrev pub ending : List ℕ → Data → Channel → Answer
 ending user identifier channel = record { rejected = false; streams = []; stops = []; says = []; casts = casts_of user identifier channel.rules.leave }
 
 abbrev pub performance : List ℕ → Data → List ℕ → Action → Answer
 performance user identifier payload action =
-    record { rejected = false; streams = names_of user identifier action.streams; stops = names_of user identifier action.stops; says = echo_of action.echo payload; casts = casts_to user identifier payload action.casts }
+    record {
+      rejected = false;
+      streams = names_of user identifier action.streams;
+      stops = names_of user identifier action.stops;
+      says = echo_of action.echo payload;
+      casts = casts_to user identifier payload action.casts;
+    }
 
 -- ---- actions
 
@@ -124,7 +138,8 @@ abbrev pub termination : List ℕ → Data → Channel → Answer
 termination user identifier channel = if can_fill channel.required identifier then ending user identifier channel else nothing
 
 abbrev pub reaction : List ℕ → Data → Channel → List ℕ → Action → Answer
-reaction user identifier channel payload action = if can_fill channel.required identifier then performance user identifier (squeezed payload) action else nothing
+reaction user identifier channel payload action =
+    if can_fill channel.required identifier then performance user identifier (squeezed payload) action else nothing
 
 abbrev pub subscribed_among : List Channel → List ℕ → List ℕ → Result Answer CallFault
 subscribed_among channels user text = do
@@ -154,3 +169,8 @@ unsubscribed_by book user text = unsubscribed_among book.channels user text
 
 abbrev pub performed_by : Declared → List ℕ → List ℕ → List ℕ → Result Answer CallFault
 performed_by book user text payload = performed_among book.channels user text payload
+
+-- the callbacks that a book stands for
+abbrev pub callbacks_of : Declared → Callbacks
+callbacks_of book =
+    record { identify = identified_by book; subscribed = subscribed_by book; unsubscribed = unsubscribed_by book; perform = performed_by book }

@@ -1,5 +1,6 @@
 pub mod Answers
 pub mod Books
+pub mod Callbacks
 pub mod Calls
 pub mod Json
 pub mod Names

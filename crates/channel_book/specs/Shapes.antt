@@ -1,8 +1,10 @@
 -- The shape of a channel book: the table of its members, walked in order.
-use Rattle.std.specs.Prelude.{ℕ, ◌==◌, ◌&&◌, not, nat_le, Bool, false, List, [], ◌∷◌, length, codes, Option, Some, None, is_some, option_and_then, bytes_eq, Result, Ok, Err, if◌then◌else◌}
+use Rattle.std.specs.Prelude.{ℕ, ◌==◌, ◌&&◌, not, nat_le, Bool, false, List, [], ◌∷◌, length, codes, Option, Some, None, is_some, option_and_then}
+use Rattle.std.specs.Prelude.{bytes_eq, Result, Ok, Err, if◌then◌else◌}
 use Rattle.std.specs.List.{list_any}
 use Rattle.serde_json.specs.Data.{Data, Items, no_items, item, Members, no_members, member}
 use Rattle.serde_json.specs.Find.{get, as_str, as_bool, as_object, as_array}
+use Rattle.cable_base.specs.declared.limits.TheConstants.{MOST_USER}
 use Rattle.channel_book.specs.declared.templates.Template.{Template}
 use Rattle.channel_book.specs.declared.declarations.CastRule.{CastRule}
 use Rattle.channel_book.specs.declared.declarations.Action.{Action}
@@ -25,9 +27,9 @@ pub record Declared : Type 0 where
 
 -- ---- the book's tokens
 
--- a user is a string of at most 1,000 bytes
+-- a user is a string of at most `MOST_USER` bytes
 abbrev pub user_in : List ℕ → Data → Result (List ℕ × List ℕ) (List ℕ)
-user_in token d = here (as_str d) >>= λ user. (if nat_le (length user) 1000 then Ok (token, user) else Err [])
+user_in token d = here (as_str d) >>= λ user. (if nat_le (length user) MOST_USER then Ok (token, user) else Err [])
 
 abbrev pub users_in : Members → Result Users (List ℕ)
 users_in no_members = Ok []

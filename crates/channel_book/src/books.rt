@@ -5,7 +5,8 @@ ghost use Rattle.channel_book.specs.Steps.{or_fault};
 ghost use Rattle.channel_book.specs.Paths.{ReadsPart};
 ghost use Rattle.channel_book.specs.Shapes.{shape_in};
 ghost use Rattle.channel_book.specs.Books.{Reads, shape_or_fault, unless_reserved, unless_repeated, book_of};
-ghost use Rattle.channel_book.specs.Answers.{user_among, identifier_of, channel_among, object_of, action_among, subscribed_among, unsubscribed_among, performed_among};
+ghost use Rattle.channel_book.specs.Answers.{user_among, identifier_of, channel_among, object_of, action_among, subscribed_among, unsubscribed_among};
+ghost use Rattle.channel_book.specs.Answers.{performed_among};
 ghost use Rattle.channel_book.specs.declared.answers.CallFault.TheVariants as fault;
 
 use crate::answering::{reaction, subscription, termination};
@@ -18,7 +19,7 @@ use crate::faults::{BookFault, ShapeFault};
 use crate::names::Indexed;
 use crate::parts::{here, in_member};
 use crate::shapes::{channels_in, text_at, tokens_in};
-use cable_base::Text;
+use cable_base::{MOST_USER, Text};
 use cable_json::read_json;
 use serde_json::Value;
 use std::alloc::Global;
@@ -89,7 +90,7 @@ fn unless_repeated(alloc: Global, book: Book) -> Result<Book, BookFault>
 impl Book {
     /// The book of a text, which is one JSON object.
     ///
-    /// `tokens` is an object from token to user, a string of at most 1,000 bytes. `channels` is a list of channels. A channel has a
+    /// `tokens` is an object from token to user, a string of at most `MOST_USER` bytes. `channels` is a list of channels. A channel has a
     /// `name`, and lists: `requires` the names that its templates may take up besides `user`, `streams` of templates, `says` of
     /// strings that hold JSON, `enter` and `leave` of objects with a template `to` and a string `payload` that holds JSON, and
     /// `actions`. An action has a `name`, `casts`, a list of templates, `echo`, a truth value, and `streams` and `stops`, lists of
@@ -119,7 +120,7 @@ impl Book {
 /// The user of a token.
 fn user_among<'a>(users: &'a Indexed<User>, token: &str) -> Option<&'a str>
     ensures user { option_map (λ s. s.now) result ≡ user_among token.now users.now }
-    ensures short { IfSome result (λ s. length s.now ≤ 1000) }
+    ensures short { IfSome result (λ s. length s.now ≤ MOST_USER) }
 {
     match users.get(token) {
         Some(user) => Some(user.as_str()),
@@ -231,15 +232,9 @@ fn performed_among(
 }
 
 impl Callbacks for Book {
-    ghost use Rattle.channel_book.specs.Answers.{identified_by, subscribed_by, unsubscribed_by, performed_by};
+    ghost use Rattle.channel_book.specs.Answers.{callbacks_of};
 
-    ghost user_of = { identified_by };
-
-    ghost subscribed_of = { subscribed_by };
-
-    ghost unsubscribed_of = { unsubscribed_by };
-
-    ghost performed_of = { performed_by };
+    ghost answers = { callbacks_of };
 
     fn identify(&self, token: &str) -> Option<&str> {
         user_among(&self.users, token)

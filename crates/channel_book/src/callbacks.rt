@@ -1,37 +1,30 @@
-ghost use Rattle.std.specs.Prelude.{◌≡◌, ◌≤◌, List, ℕ, Option, Result, option_map, length, IfSome, IfOk};
-ghost use Rattle.channel_book.specs.declared.answers.Answer.{Answer};
-ghost use Rattle.channel_book.specs.declared.answers.CallFault.{CallFault};
+ghost use Rattle.std.specs.Prelude.{◌≡◌, ◌≤◌, option_map, length, IfSome, IfOk};
+ghost use Rattle.channel_book.specs.Callbacks.{Callbacks};
 ghost use Rattle.channel_book.specs.Calls.{Gives, SpeaksJson};
 
 use crate::answers::{Answer, CallFault};
+use cable_base::MOST_USER;
 use std::alloc::Global;
 
 /// The application's side of a session. Each answer is a function of the value and the arguments.
 ///
-/// `user_of`, `subscribed_of`, `unsubscribed_of` and `performed_of` are these functions. A call answers what they give, or want of
-/// memory.
+/// `answers` has these functions, one for each call. A call answers what its function gives, or want of memory.
 pub trait Callbacks {
-    ghost user_of: { Self → List ℕ → Option (List ℕ) };
+    ghost answers: { Self → Callbacks };
 
-    ghost subscribed_of: { Self → List ℕ → List ℕ → Result Answer CallFault };
-
-    ghost unsubscribed_of: { Self → List ℕ → List ℕ → Result Answer CallFault };
-
-    ghost performed_of: { Self → List ℕ → List ℕ → List ℕ → Result Answer CallFault };
-
-    /// The user of a token, which has at most 1,000 bytes, or nothing where the token is unknown.
+    /// The user of a token, which has at most `MOST_USER` bytes, or nothing where the token is unknown.
     fn identify(&self, token: &str) -> Option<&str>
-        ensures user { option_map (λ s. s.now) result ≡ user_of self.now token.now }
-        ensures short { IfSome result (λ s. length s.now ≤ 1000) };
+        ensures user { option_map (λ s. s.now) result ≡ (answers self.now).identify token.now }
+        ensures short { IfSome result (λ s. length s.now ≤ MOST_USER) };
 
     /// What happens when a user subscribes with an identifier.
     fn subscribed(&self, alloc: Global, user: &str, identifier: &str) -> Result<Answer, CallFault>
-        ensures answer { Gives result (subscribed_of self.now user.now identifier.now) }
+        ensures answer { Gives result ((answers self.now).subscribed user.now identifier.now) }
         ensures json { IfOk result SpeaksJson };
 
     /// What happens when a subscription ends. Only its casts are used.
     fn unsubscribed(&self, alloc: Global, user: &str, identifier: &str) -> Result<Answer, CallFault>
-        ensures answer { Gives result (unsubscribed_of self.now user.now identifier.now) }
+        ensures answer { Gives result ((answers self.now).unsubscribed user.now identifier.now) }
         ensures json { IfOk result SpeaksJson };
 
     /// What happens when a user sends a message to a subscription.
@@ -42,6 +35,6 @@ pub trait Callbacks {
         identifier: &str,
         payload: &str,
     ) -> Result<Answer, CallFault>
-        ensures answer { Gives result (performed_of self.now user.now identifier.now payload.now) }
+        ensures answer { Gives result ((answers self.now).perform user.now identifier.now payload.now) }
         ensures json { IfOk result SpeaksJson };
 }

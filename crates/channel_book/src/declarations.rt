@@ -3,10 +3,10 @@ ghost use Rattle.std.specs.Prelude.{◌≡◌, ◌≤◌, length};
 use crate::jsons::JsonText;
 use crate::names::{Indexed, Named};
 use crate::templates::Template;
-use cable_base::{Listed, Text};
+use cable_base::{Listed, MOST_USER, Text};
 use std::marker::Model;
 
-/// A user's token and text, which has at most 1,000 bytes.
+/// A user's token and text, which has at most `MOST_USER` bytes.
 #[derive(Debug, Drop)]
 pub struct User {
     pub token: Text,
@@ -15,18 +15,19 @@ pub struct User {
 
 impl Model for User {
     ghost use Rattle.std.specs.Prelude.{List, ℕ, ◌≤◌, length};
+    ghost use Rattle.cable_base.specs.declared.limits.TheConstants.{MOST_USER};
 
     ghost Value = { List ℕ × List ℕ };
 
     ghost view = { λ u. (u.token, u.text) };
 
-    ghost invariant = { λ u. length u.text ≤ 1000 };
+    ghost invariant = { λ u. length u.text ≤ MOST_USER };
 }
 
 impl User {
     pub fn as_str(&self) -> &str
         ensures text { result.now ≡ self.now.1 }
-        ensures short { length result.now ≤ 1000 }
+        ensures short { length result.now ≤ MOST_USER }
     {
         self.text.as_str()
     }

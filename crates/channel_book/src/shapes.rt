@@ -5,7 +5,8 @@ ghost use Rattle.serde_json.specs.View.{view, items_view, members_view};
 ghost use Rattle.channel_book.specs.Paths.{ReadsPart, here, within, each, list_of};
 ghost use Rattle.channel_book.specs.Json.{text_at, json_text};
 ghost use Rattle.channel_book.specs.Templates.{opens, template_of};
-ghost use Rattle.channel_book.specs.Shapes.{user_in, users_in, tokens_in, template_in, json_in, cast_in, name_in, flag_in, is_requirable, required_in, names_in, distinct_names, requires_in, action_in, rules_in, channel_in, channels_in};
+ghost use Rattle.channel_book.specs.Shapes.{user_in, users_in, tokens_in, template_in, json_in, cast_in, name_in, flag_in, is_requirable};
+ghost use Rattle.channel_book.specs.Shapes.{required_in, names_in, distinct_names, requires_in, action_in, rules_in, channel_in, channels_in};
 
 use crate::declarations::{Action, CastRule, Channel, Rules, User};
 use crate::faults::ShapeFault;
@@ -13,12 +14,9 @@ use crate::jsons::JsonText;
 use crate::names::Indexed;
 use crate::parts::{Part, broken, each, here, in_member, list_of};
 use crate::templates::{Template, has_close, template_of};
-use cable_base::{Listed, Text};
+use cable_base::{Listed, MOST_USER, Text};
 use serde_json::{Map, Value};
 use std::alloc::Global;
-
-/// The most bytes that a user has.
-const LONGEST_USER: usize = 1000;
 
 /// The string at a name, of an object that has one there.
 pub fn text_at<'a>(value: &'a Value, name: &str) -> Option<&'a str>
@@ -31,7 +29,7 @@ fn user_in(alloc: Global, token: &str, value: &Value) -> Result<User, ShapeFault
     ensures { ReadsPart result (user_in token.now (view value.now)) }
 {
     let text = here(alloc, value.as_str())?;
-    if text.len() <= LONGEST_USER {
+    if text.len() <= MOST_USER {
         Ok(User {
             token: Text::new(alloc, token)?,
             text: Text::new(alloc, text)?,

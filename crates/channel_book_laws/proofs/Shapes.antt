@@ -9,15 +9,18 @@ use Rattle.serde_json.specs.Data.{Data, null, boolean, number, string, array, ob
 use Rattle.serde_json.specs.Read.{read}
 use Rattle.serde_json.specs.Find.{get, as_str, as_bool, as_object}
 use Rattle.cable_base.specs.Squeeze.{squeezed}
+use Rattle.cable_base.specs.declared.limits.TheConstants.{MOST_USER}
 use Rattle.channel_book.specs.declared.templates.Template.{Template}
 use Rattle.channel_book.specs.Json.{text_at, json_text}
 use Rattle.channel_book.specs.Names.{first_repeat}
 use Rattle.channel_book.specs.Paths.{here}
 use Rattle.channel_book.specs.Templates.{opens, closes, IsPlain, ArePlain, template_of}
-use Rattle.channel_book.specs.Shapes.{Users, user_in, users_in, tokens_in, template_in, json_in, cast_in, name_in, flag_in, is_requirable, required_in, names_in, distinct_names, requires_in, action_in, rules_in, channel_in, channels_in, shape_in}
+use Rattle.channel_book.specs.Shapes.{Users, user_in, users_in, tokens_in, template_in, json_in, cast_in, name_in, flag_in, is_requirable}
+use Rattle.channel_book.specs.Shapes.{required_in, names_in, distinct_names, requires_in, action_in, rules_in, channel_in, channels_in, shape_in}
 use Rattle.channel_book.proofs.Cutting.{template_is, template_read}
 use Rattle.channel_book_laws.specs.Lists.{AreDistinct, AreItems}
-use Rattle.channel_book_laws.specs.Books.{IsObject, IsUser, AreUsers, IsTokens, IsName, IsFlag, IsTemplateString, IsJsonString, IsCastRule, IsRequirable, IsRequired, IsAction, IsRules, IsChannel, IsChannels, IsBook}
+use Rattle.channel_book_laws.specs.Books.{IsObject, IsUser, AreUsers, IsTokens, IsName, IsFlag, IsTemplateString, IsJsonString, IsCastRule}
+use Rattle.channel_book_laws.specs.Books.{IsRequirable, IsRequired, IsAction, IsRules, IsChannel, IsChannels, IsBook}
 use Rattle.channel_book_laws.proofs.Names.{itself, new_none, Told, told}
 use Rattle.channel_book_laws.proofs.Reading.{Reads, converts, ok_reads, then_reads, within_reads, here_reads, tested_reads, each_reads, array_reads, list_reads}
 
@@ -55,8 +58,8 @@ object_reads d = here_reads (as_object d) (λ ms. d ≡ object ms) (object_is d)
 
 -- ---- tokens
 
-Decides-short : (user : List ℕ) → Decides (nat_le (length user) 1000) (length user ≤ 1000)
-Decides-short user = (leb-true (length user) 1000, le-leb (length user) 1000)
+Decides-short : (user : List ℕ) → Decides (nat_le (length user) MOST_USER) (length user ≤ MOST_USER)
+Decides-short user = (leb-true (length user) MOST_USER, le-leb (length user) MOST_USER)
 
 -- a token with its user
 abbrev IsUserOf : List ℕ → Data → List ℕ × List ℕ → Type 0
@@ -64,7 +67,7 @@ IsUserOf token d u = (u.0 ≡ token) × IsUser d u.1
 
 user_reads : (token : List ℕ) (d : Data) → Reads (user_in token d) (IsUserOf token d)
 user_reads token d =
-    converts (then_reads (string_reads d) (λ s e. tested_reads (nat_le (length s) 1000) (token, s) (Decides-short s)))
+    converts (then_reads (string_reads d) (λ s e. tested_reads (nat_le (length s) MOST_USER) (token, s) (Decides-short s)))
     (λ u w. subst (IsUserOf token d) w.2.1 (refl, record { text = w.1; short = w.2.0 }))
     (λ u i. (u.1, i.1.text, (i.1.short, ap (λ (t : List ℕ). (t, u.1)) (sym i.0))))
 

@@ -4,19 +4,25 @@ use Rattle.std.specs.Prelude.{◌==◌, nat_le, Result, Ok, Err, is_some, codes,
 use Rattle.std.specs.List.{AllByRecursion}
 use Rattle.serde_json.specs.Data.{Data, array, object, Items, no_items, item, Members, no_members, member}
 use Rattle.serde_json.specs.Find.{get, as_str, as_bool, as_object, as_array}
+use Rattle.cable_base.specs.declared.limits.TheConstants.{MOST_USER}
 use Rattle.channel_book.specs.Steps.{◌>>=◌}
 use Rattle.channel_book.specs.Json.{text_at, json_text}
 use Rattle.channel_book.specs.Names.{first_repeat}
 use Rattle.channel_book.specs.Paths.{here, within, each}
 use Rattle.channel_book.specs.Templates.{ArePlain, template_of}
-use Rattle.channel_book.specs.Shapes.{Declared, user_in, users_in, tokens_in, template_in, json_in, cast_in, name_in, flag_in, is_requirable, required_in, names_in, distinct_names, requires_in, action_in, rules_in, channel_in, channels_in, shape_in}
+use Rattle.channel_book.specs.Shapes.{Declared, user_in, users_in, tokens_in, template_in, json_in, cast_in, name_in, flag_in, is_requirable}
+use Rattle.channel_book.specs.Shapes.{required_in, names_in, distinct_names, requires_in, action_in, rules_in, channel_in, channels_in, shape_in}
 use Rattle.channel_book_laws.specs.Lists.{AreItems}
 use Rattle.channel_book_laws.specs.Books.{IsObject, IsRequirable, IsRequired, IsBook}
-use Rattle.channel_book_laws.specs.Walk.{Place, IsMet, an_object, the_tokens, the_channels, a_name, required_names, a_template, json_string, a_cast, a_flag, at, member_at, items_of, item_places, template_places, json_places, cast_places, action_places, onto, strings, names_at, rules_places, channel_places, book_places, IsFirstBreak}
+use Rattle.channel_book_laws.specs.Walk.{Place, IsMet, an_object, the_tokens, the_channels, a_name, required_names, a_template, json_string, a_cast}
+use Rattle.channel_book_laws.specs.Walk.{a_flag, at, member_at, items_of, item_places, template_places, json_places, cast_places, action_places, onto}
+use Rattle.channel_book_laws.specs.Walk.{strings, names_at, rules_places, channel_places, book_places, IsFirstBreak}
 use Rattle.channel_book_laws.proofs.Reading.{Reads, converts, then_reads, within_reads, here_reads, array_reads}
-use Rattle.channel_book_laws.proofs.Shapes.{object_reads, tokens_read, template_reads, json_reads, cast_reads, name_reads, flag_reads, requires_read, required_plain, shape_reads}
+use Rattle.channel_book_laws.proofs.Shapes.{object_reads, tokens_read, template_reads, json_reads, cast_reads, name_reads, flag_reads, requires_read}
+use Rattle.channel_book_laws.proofs.Shapes.{required_plain, shape_reads}
 use Rattle.channel_book_laws.proofs.Splits.{all_or_first, one_first}
-use Rattle.channel_book_laws.proofs.Walking.{Walks, then_walks, ok_walks, within_walks, TellsHere, here_tells, test_tells, then_tells, place_walks, item_walks, each_walks, list_at_walks}
+use Rattle.channel_book_laws.proofs.Walking.{Walks, then_walks, ok_walks, within_walks, TellsHere, here_tells, test_tells, then_tells, place_walks}
+use Rattle.channel_book_laws.proofs.Walking.{item_walks, each_walks, list_at_walks}
 
 -- ---- what tells its faults right here
 
@@ -26,7 +32,7 @@ ok_tells x path e = absurd cc
 users_tell : (ms : Members) → TellsHere (users_in ms)
 users_tell no_members = ok_tells []
 users_tell (member token d ms) =
-    then_tells (user_in token d) _ (then_tells (here (as_str d)) _ (here_tells (as_str d)) (λ s. test_tells (nat_le (length s) 1000) (token, s)))
+    then_tells (user_in token d) _ (then_tells (here (as_str d)) _ (here_tells (as_str d)) (λ s. test_tells (nat_le (length s) MOST_USER) (token, s)))
     (λ u. then_tells (users_in ms) _ (users_tell ms) (λ us. ok_tells (u ∷ us)))
 
 tokens_tell : (o : Option Data) → TellsHere (tokens_in o)

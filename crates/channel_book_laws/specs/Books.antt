@@ -4,6 +4,7 @@ use Rattle.serde_json.specs.Data.{Data, boolean, string, array, object, Items, M
 use Rattle.serde_json.specs.Read.{read}
 use Rattle.serde_json.specs.Find.{get}
 use Rattle.cable_base.specs.Squeeze.{squeezed}
+use Rattle.cable_base.specs.declared.limits.TheConstants.{MOST_USER}
 use Rattle.channel_book.specs.declared.templates.Template.{Template}
 use Rattle.channel_book.specs.declared.declarations.CastRule.{CastRule}
 use Rattle.channel_book.specs.declared.declarations.Action.{Action}
@@ -24,10 +25,10 @@ IsList Is (Some d) xs = (items : Items) × (d ≡ array items) × AreItems Is it
 
 -- ---- tokens
 
--- a user is a string of at most 1,000 bytes
+-- a user is a string of at most `MOST_USER` bytes
 pub record IsUser (d : Data) (user : List ℕ) : Type 0 where
   pub text : d ≡ string user
-  pub short : length user ≤ 1000
+  pub short : length user ≤ MOST_USER
 
 -- the members are these tokens with their users, in order
 abbrev pub AreUsers : Members → Users → Type 0

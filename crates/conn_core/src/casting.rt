@@ -3,8 +3,8 @@ ghost use Rattle.channel_book.specs.declared.answers.CallFault.TheVariants as ca
 ghost use Rattle.cable_model.specs.Plans.{IsAnswer, cast_note, kept_casts, cast_notes, fault_notes, casts_left, notes_left};
 ghost use Rattle.conn_core.specs.Payloads.{AreCommittable};
 
-use crate::limits::{MOST_NAME, MOST_PAYLOAD, is_reserved};
-use cable_base::{Listed, OutOfMemory};
+use crate::names::is_reserved;
+use cable_base::{Listed, MOST_NAME, MOST_PAYLOAD, OutOfMemory};
 use cable_model::Note;
 use channel_book::{CallFault, Callbacks, Cast};
 use std::alloc::Global;
@@ -81,11 +81,13 @@ impl Casts {
         user: &str,
         callbacks: &C,
     ) -> Result<(), OutOfMemory>
-        ensures kept { OnOk result (self.new.kept ≡ self.old.kept ++ kept_casts (casts_left (C.unsubscribed_of callbacks.now user.now identifier.now))) }
-        ensures notes { OnOk result (self.new.notes ≡ self.old.notes ++ cast_notes (casts_left (C.unsubscribed_of callbacks.now user.now identifier.now))) }
-        ensures faults { OnOk result (self.new.faults ≡ self.old.faults ++ notes_left (C.unsubscribed_of callbacks.now user.now identifier.now)) }
-        ensures rows { OnOk result (AreCommittable (kept_casts (casts_left (C.unsubscribed_of callbacks.now user.now identifier.now)))) }
-        ensures answered { OnOk result (IsAnswer (C.unsubscribed_of callbacks.now user.now identifier.now)) }
+        ensures kept { OnOk result (self.new.kept ≡ self.old.kept
+            ++ kept_casts (casts_left ((C.answers callbacks.now).unsubscribed user.now identifier.now))) }
+        ensures notes { OnOk result (self.new.notes ≡ self.old.notes
+            ++ cast_notes (casts_left ((C.answers callbacks.now).unsubscribed user.now identifier.now))) }
+        ensures faults { OnOk result (self.new.faults ≡ self.old.faults ++ notes_left ((C.answers callbacks.now).unsubscribed user.now identifier.now)) }
+        ensures rows { OnOk result (AreCommittable (kept_casts (casts_left ((C.answers callbacks.now).unsubscribed user.now identifier.now)))) }
+        ensures answered { OnOk result (IsAnswer ((C.answers callbacks.now).unsubscribed user.now identifier.now)) }
     {
         match callbacks.unsubscribed(alloc, user, identifier) {
             Ok(answer) => self.add(answer.casts),

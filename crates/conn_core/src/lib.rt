@@ -7,7 +7,7 @@ mod connections;
 mod finding;
 mod keeping;
 mod laws;
-mod limits;
+mod names;
 mod planning;
 mod saying;
 mod streaming;

@@ -3,7 +3,9 @@ ghost use Rattle.std.specs.List.{AllByRecursion};
 ghost use Rattle.cable_base.specs.Squeeze.{IsSqueezedJson};
 ghost use Rattle.channel_book.specs.Calls.{SpeaksJson};
 ghost use Rattle.channel_book.specs.declared.answers.Cast.{Cast};
-ghost use Rattle.cable_model.specs.Plans.{IsAnswer, IsAnswered, is_rejection, noted, said_only, kept_casts, cast_notes, casts_left, notes_left, rejection, confirmation, acceptance, subscribe_plan, unsubscribe_plan, perform_plan, close_plan, last_words, new_streams, plan_for};
+ghost use Rattle.cable_model.specs.Plans.{IsAnswer, IsAnswered, is_rejection, noted, said_only, kept_casts, cast_notes, casts_left, notes_left};
+ghost use Rattle.cable_model.specs.Plans.{rejection, confirmation, acceptance, subscribe_plan, unsubscribe_plan, perform_plan, close_plan};
+ghost use Rattle.cable_model.specs.Plans.{last_words, new_streams, plan_for};
 ghost use Rattle.conn_core.specs.Payloads.{AreCommittable, CarriesJson};
 
 use crate::casting::{Casts, fault_note};
@@ -72,10 +74,12 @@ fn casting_both<C: Callbacks>(
     callbacks: &C,
 ) -> Result<(Listed<Cast>, Listed<Note>), OutOfMemory>
     requires json { All (λ (c : Cast). IsSqueezedJson c.payload) casts }
-    ensures casts { IfOk result (λ parts. parts.0 ≡ kept_casts (casts ++ casts_left (C.unsubscribed_of callbacks.now user.now identifier.now))) }
+    ensures casts { IfOk result (λ parts. parts.0 ≡ kept_casts (casts ++ casts_left ((C.answers callbacks.now).unsubscribed user.now identifier.now))) }
     ensures rows { IfOk result (λ parts. AreCommittable parts.0) }
-    ensures notes { IfOk result (λ parts. parts.1 ≡ why ++ cast_notes (casts ++ casts_left (C.unsubscribed_of callbacks.now user.now identifier.now)) ++ notes_left (C.unsubscribed_of callbacks.now user.now identifier.now)) }
-    ensures answered { IfOk result (λ _. IsAnswer (C.unsubscribed_of callbacks.now user.now identifier.now)) }
+    ensures notes { IfOk result (λ parts. parts.1 ≡ why
+        ++ cast_notes (casts ++ casts_left ((C.answers callbacks.now).unsubscribed user.now identifier.now))
+        ++ notes_left ((C.answers callbacks.now).unsubscribed user.now identifier.now)) }
+    ensures answered { IfOk result (λ _. IsAnswer ((C.answers callbacks.now).unsubscribed user.now identifier.now)) }
 {
     let mut walked = Casts::behind(alloc, why);
     walked.add(casts)?;
@@ -93,9 +97,9 @@ fn rejecting<C: Callbacks>(
     callbacks: &C,
 ) -> Result<Plan, OutOfMemory>
     requires { SpeaksJson answer }
-    ensures plan { IfOk result (λ p. p ≡ rejection why identifier.now answer (C.unsubscribed_of callbacks.now user.now identifier.now)) }
+    ensures plan { IfOk result (λ p. p ≡ rejection why identifier.now answer ((C.answers callbacks.now).unsubscribed user.now identifier.now)) }
     ensures casts { IfOk result (λ p. AreCommittable p.casts) }
-    ensures answered { IfOk result (λ _. IsAnswer (C.unsubscribed_of callbacks.now user.now identifier.now)) }
+    ensures answered { IfOk result (λ _. IsAnswer ((C.answers callbacks.now).unsubscribed user.now identifier.now)) }
 {
     let Answer {
         says: sayings,
@@ -153,9 +157,13 @@ fn subscribing<C: Callbacks>(
     user: &str,
     callbacks: &C,
 ) -> Result<Plan, OutOfMemory>
-    ensures plan { IfOk result (λ p. p ≡ subscribe_plan identifier.now (C.subscribed_of callbacks.now user.now identifier.now) (C.unsubscribed_of callbacks.now user.now identifier.now)) }
+    ensures plan { IfOk result (λ p. p ≡ subscribe_plan identifier.now
+        ((C.answers callbacks.now).subscribed user.now identifier.now)
+        ((C.answers callbacks.now).unsubscribed user.now identifier.now)) }
     ensures casts { IfOk result (λ p. AreCommittable p.casts) }
-    ensures answered { IfOk result (λ _. IsAnswer (C.subscribed_of callbacks.now user.now identifier.now) × (is_rejection (C.subscribed_of callbacks.now user.now identifier.now) ≡ true → IsAnswer (C.unsubscribed_of callbacks.now user.now identifier.now))) }
+    ensures answered { IfOk result (λ _. IsAnswer ((C.answers callbacks.now).subscribed user.now identifier.now)
+        × (is_rejection ((C.answers callbacks.now).subscribed user.now identifier.now) ≡ true
+        → IsAnswer ((C.answers callbacks.now).unsubscribed user.now identifier.now))) }
 {
     let answer = match callbacks.subscribed(alloc, user, identifier.as_str()) {
         Ok(answer) => answer,
@@ -181,9 +189,9 @@ fn unsubscribing<C: Callbacks>(
     user: &str,
     callbacks: &C,
 ) -> Result<Plan, OutOfMemory>
-    ensures plan { IfOk result (λ p. p ≡ unsubscribe_plan identifier.now (C.unsubscribed_of callbacks.now user.now identifier.now)) }
+    ensures plan { IfOk result (λ p. p ≡ unsubscribe_plan identifier.now ((C.answers callbacks.now).unsubscribed user.now identifier.now)) }
     ensures casts { IfOk result (λ p. AreCommittable p.casts) }
-    ensures answered { IfOk result (λ _. IsAnswer (C.unsubscribed_of callbacks.now user.now identifier.now)) }
+    ensures answered { IfOk result (λ _. IsAnswer ((C.answers callbacks.now).unsubscribed user.now identifier.now)) }
 {
     let mut walked = Casts::behind(alloc, Listed::empty(alloc));
     walked.leave(alloc, identifier.as_str(), user, callbacks)?;
@@ -240,9 +248,9 @@ fn performing<C: Callbacks>(
     user: &str,
     callbacks: &C,
 ) -> Result<Plan, OutOfMemory>
-    ensures plan { IfOk result (λ p. p ≡ perform_plan identifier.now streams.now (C.performed_of callbacks.now user.now identifier.now payload.now)) }
+    ensures plan { IfOk result (λ p. p ≡ perform_plan identifier.now streams.now ((C.answers callbacks.now).perform user.now identifier.now payload.now)) }
     ensures casts { IfOk result (λ p. AreCommittable p.casts) }
-    ensures answered { IfOk result (λ _. IsAnswer (C.performed_of callbacks.now user.now identifier.now payload.now)) }
+    ensures answered { IfOk result (λ _. IsAnswer ((C.answers callbacks.now).perform user.now identifier.now payload.now)) }
 {
     match callbacks.perform(alloc, user, identifier.as_str(), payload) {
         Ok(answer) => performed(alloc, identifier, streams, answer),
@@ -272,9 +280,10 @@ fn closing<C: Callbacks>(
     user: &str,
     callbacks: &C,
 ) -> Result<Plan, OutOfMemory>
-    ensures plan { IfOk result (λ p. p ≡ close_plan how (map (C.unsubscribed_of callbacks.now user.now) identifiers.now)) }
+    ensures plan { IfOk result (λ p. p ≡ close_plan how (map ((C.answers callbacks.now).unsubscribed user.now) identifiers.now)) }
     ensures casts { IfOk result (λ p. AreCommittable p.casts) }
-    ensures answered { IfOk result (λ _. AllByRecursion (λ (identifier : List ℕ). IsAnswer (C.unsubscribed_of callbacks.now user.now identifier)) identifiers.now) }
+    ensures answered { IfOk result (λ _.
+        AllByRecursion (λ (identifier : List ℕ). IsAnswer ((C.answers callbacks.now).unsubscribed user.now identifier)) identifiers.now) }
 {
     let mut walked = Casts::behind(alloc, Listed::empty(alloc));
     for identifier in identifiers {
@@ -299,9 +308,9 @@ pub fn plan<C: Callbacks>(
     callbacks: &C,
 ) -> Result<Plan, OutOfMemory>
     requires { CarriesJson task.now }
-    ensures plan { IfOk result (λ p. p ≡ plan_for (record { identify = C.user_of callbacks.now; subscribed = C.subscribed_of callbacks.now; unsubscribed = C.unsubscribed_of callbacks.now; perform = C.performed_of callbacks.now }) user.now task.now) }
+    ensures plan { IfOk result (λ p. p ≡ plan_for (C.answers callbacks.now) user.now task.now) }
     ensures casts { IfOk result (λ p. AreCommittable p.casts) }
-    ensures answered { IfOk result (λ _. IsAnswered (record { identify = C.user_of callbacks.now; subscribed = C.subscribed_of callbacks.now; unsubscribed = C.unsubscribed_of callbacks.now; perform = C.performed_of callbacks.now }) user.now task.now) }
+    ensures answered { IfOk result (λ _. IsAnswered (C.answers callbacks.now) user.now task.now) }
 {
     match task {
         Task::Nothing => Ok(nothing(alloc)),

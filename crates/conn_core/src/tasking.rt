@@ -7,9 +7,8 @@ ghost use Rattle.conn_core.specs.Subscriptions.{SubParts, shown};
 ghost use Rattle.conn_core.specs.Bare.{bare};
 
 use crate::finding::{sub_named, sub_numbered};
-use crate::limits::MOST_SUBSCRIPTIONS;
 use crate::subscriptions::Sub;
-use cable_base::{Listed, Name, OutOfMemory, SubNo, Text};
+use cable_base::{Listed, MOST_SUBSCRIPTIONS, Name, OutOfMemory, SubNo, Text};
 use cable_json::{Command, CommandFault};
 use cable_model::{Closing, Note, Piece, Task};
 use std::alloc::Global;

@@ -2,8 +2,8 @@ ghost use Rattle.std.specs.Prelude.{◌≡◌, ◌≤◌, ◌+◌, ◌++◌, ◌
 ghost use Rattle.cable_model.specs.Connection.{among};
 ghost use Rattle.cable_model.specs.Plans.{unstopped, stream_note, new_stream, new_streams, stream_notes};
 
-use crate::limits::{MOST_NAME, MOST_STREAMS, is_reserved};
-use cable_base::{Listed, Name, OutOfMemory};
+use crate::names::is_reserved;
+use cable_base::{Listed, MOST_NAME, MOST_STREAMS, Name, OutOfMemory};
 use cable_model::Note;
 use std::alloc::Global;
 
@@ -68,7 +68,8 @@ impl Walk {
         requires left { left ≡ length (unstopped stops.now streams.now) }
         requires few { left + length self.old.wanted < 2 ^ 64 }
         ensures wanted { OnOk result (self.new.wanted ≡ self.old.wanted ++ new_stream (unstopped stops.now streams.now ++ self.old.wanted) name.now) }
-        ensures notes { OnOk result (self.new.notes ≡ self.old.notes ++ option_to_list (stream_note (unstopped stops.now streams.now ++ self.old.wanted) name.now)) }
+        ensures notes { OnOk result (self.new.notes ≡ self.old.notes
+            ++ option_to_list (stream_note (unstopped stops.now streams.now ++ self.old.wanted) name.now)) }
     {
         let is_known = is_known(name.as_str(), streams, stops, self.wanted.as_slice());
         let known_count = left + self.wanted.as_slice().len();

@@ -47,13 +47,12 @@ impl Callbacks for App {
     ghost use Rattle.std.specs.Prelude.{false, [], None, Ok, Err};
     ghost use Rattle.channel_book.specs.declared.answers.CallFault.TheVariants as call_fault;
 
-    ghost user_of = { λ a token. None };
-
-    ghost subscribed_of = { λ a user identifier. Ok (record { rejected = false; streams = a.streams; stops = a.stops; says = []; casts = [] }) };
-
-    ghost unsubscribed_of = { λ a user identifier. Err call_fault.UnknownChannel };
-
-    ghost performed_of = { λ a user identifier payload. Ok (record { rejected = false; streams = a.streams; stops = a.stops; says = []; casts = [] }) };
+    ghost answers = { λ a. record {
+      identify = λ token. None;
+      subscribed = λ user identifier. Ok (record { rejected = false; streams = a.streams; stops = a.stops; says = []; casts = [] });
+      unsubscribed = λ user identifier. Err call_fault.UnknownChannel;
+      perform = λ user identifier payload. Ok (record { rejected = false; streams = a.streams; stops = a.stops; says = []; casts = [] });
+    } };
 
     fn identify(&self, _token: &str) -> Option<&str> {
         None

@@ -1,5 +1,5 @@
--- What a seat keeps of its fields.
-use Rattle.std.specs.Prelude.{◌≡◌, ⊤, List, Option, None, Some}
+-- What a seat and an outbox keep of their fields.
+use Rattle.std.specs.Prelude.{◌≡◌, ◌≤◌, ◌<◌, ◌+◌, ◌^◌, ⊤, ℕ, List, Option, None, Some}
 use Rattle.cable_model.specs.Plans.{task_of}
 use Rattle.conn_core.specs.Bare.{bare}
 use Rattle.conn_core.specs.Subscriptions.{Subscription}
@@ -9,3 +9,8 @@ use Rattle.conn_seat.specs.declared.jobs.Job.{Job}
 abbrev pub HasTask : List Subscription → Option Job → Type 0
 HasTask subs None = ⊤
 HasTask subs (Some j) = j.task ≡ task_of (bare subs) j.taken.piece
+
+-- an outbox has places for as many more as there is room for, and numbers to count them
+pub record HasPlaces (len cap taken room : ℕ) : Type 0 where
+  pub places : len + room ≤ cap
+  pub counts : taken + len + room < 2 ^ 64

@@ -4,3 +4,4 @@ pub mod Seated
 pub mod Turns
 pub mod Tasks
 pub mod Inside
+pub mod Outboxes

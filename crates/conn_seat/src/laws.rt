@@ -75,7 +75,8 @@ pub fn finishes_are_entries()
 /// A law, which computes nothing. The Deliver of a turn that was missed leaves a connection as it is. That of another turn gives the streams
 /// that the turn takes their mark, and puts the turn's pieces.
 pub fn turns_are_entries()
-    ensures missed { (c turn : ℕ) (note : ReadNote) (past : List Step) (v : Seated) → note.failed ≡ true → SeatOf c past v → SeatOf c (Step.Deliver turn note ∷ past) v }
+    ensures missed { (c turn : ℕ) (note : ReadNote) (past : List Step) (v : Seated) → note.failed ≡ true → SeatOf c past v
+        → SeatOf c (Step.Deliver turn note ∷ past) v }
     ensures found { (pl : Planner) (c turn : ℕ) (note : ReadNote) (past : List Step) (v new : Seated)
         → AllWorked pl c past → SeatOf c past v → note.failed ≡ false
         → Becomes (with_turn (turn_mark c note past) (deliver_puts (user_of c past) (marks c past) (turn_mark c note past) (seat c past).conn.subs note.rows) v) new
@@ -91,7 +92,8 @@ pub fn places_are_the_turns()
 
 /// A law, which computes nothing. What a row puts for the streams that are held is what the journal says of the connection's wants.
 pub fn rows_go_to_held_streams()
-    ensures { (c : ℕ) (past : List Step) (v : Seated) (row : Row) → SeatOf c past v → row_puts_for row v.subs ≡ sub_puts (marks c past) row (seat c past).conn.subs }
+    ensures { (c : ℕ) (past : List Step) (v : Seated) (row : Row) → SeatOf c past v
+        → row_puts_for row v.subs ≡ sub_puts (marks c past) row (seat c past).conn.subs }
 {}
 
 /// A law, which computes nothing. What a connection answers is what the journal says of it.

@@ -1,10 +1,12 @@
 //! One connection on its node: its subscriptions, the pieces that wait on it and the one that is out as a job, as the node's journal has
-//! them.
+//! them; and what is queued on it until its session takes it out.
 #![tactic(auto)]
 
 mod jobs;
 mod laws;
 mod naming;
+mod outbox;
+mod outs;
 mod seats;
 mod striking;
 
@@ -14,4 +16,6 @@ pub use laws::{
     puts_are_entries, room_plays_no_part, rows_go_to_held_streams, takes_are_entries,
     turns_are_entries,
 };
+pub use outbox::Outbox;
+pub use outs::Out;
 pub use seats::Seat;

@@ -1,4 +1,5 @@
-ghost use Rattle.std.specs.Prelude.{◌≡◌, ◌↔◌, ◌≤◌, ◌<◌, ◌+◌, ◌^◌, ◌-◌, true, not, map, is_some, length, filter, Some, None, IsOk, IsSome, IfOk, IfErr, OnOk, OnErr, option_map, option_copied};
+ghost use Rattle.std.specs.Prelude.{◌≡◌, ◌↔◌, ◌≤◌, ◌<◌, ◌+◌, ◌^◌, ◌-◌, true, not, map, is_some};
+ghost use Rattle.std.specs.Prelude.{length, filter, Some, None, IsOk, IsSome, IfOk, IfErr, OnOk, OnErr, option_map, option_copied};
 ghost use Rattle.cable_base.specs.Names.{own_name};
 ghost use Rattle.cable_model.specs.Pieces.{is_closing};
 ghost use Rattle.cable_model.specs.Possible.{is_command, is_empty};

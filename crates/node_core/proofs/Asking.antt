@@ -13,16 +13,16 @@ use Rattle.cable_base.specs.declared.numbers.RowId.{RowId}
 use Rattle.cable_model.specs.Possible.{is_booted, is_out, last_turn}
 use Rattle.cable_model.specs.Steps.{Step}
 use Rattle.cable_model.specs.Wants.{lower}
-use Rattle.node_holds.proofs.Naming.{names-held}
-use Rattle.node_holds.proofs.Staying.{held-missed, held-steady}
-use Rattle.node_outbox.specs.Outboxes.{OutboxesState}
+use Rattle.node_turns.proofs.HeldNames.{names-held}
+use Rattle.node_turns.proofs.HoldsStaying.{held-missed, held-steady}
+use Rattle.node_seats.specs.Outboxes.{OutboxesState}
 use Rattle.node_seats.specs.declared.turning.Wanted.{Wanted}
 use Rattle.node_seats.specs.Numbers.{Numbers}
 use Rattle.node_seats.proofs.Delivering.{turn-missed}
 use Rattle.node_seats.proofs.Onward.{onward}
 use Rattle.poll_turn.specs.Turns.{CaughtState, CursorState, TurnState, AreMessages, IsTurnOut, lower_after}
 use Rattle.subscriber_map.specs.HoldMaps.{HoldMap, holds_at}
-use Rattle.turn_wants.proofs.Wishing.{wished-ask, wished-missed}
+use Rattle.node_turns.proofs.Wishing.{wished-ask, wished-missed}
 use Rattle.node_core.specs.Journals.{JournalState}
 use Rattle.node_core.specs.Nodes.{NodeState, Stands, HasTurnRoom, IsAt, past}
 use Rattle.node_core.specs.Turned.{IsNextTurn, is_expected}

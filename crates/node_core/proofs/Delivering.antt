@@ -9,23 +9,22 @@ use Rattle.cable_model.specs.Steps.{Step}
 use Rattle.cable_model.specs.Wants.{lower, marks, turn_mark, user_of}
 use Rattle.conn_seat.specs.Seats.{Seated, Becomes}
 use Rattle.conn_seat.specs.Turns.{with_turn}
-use Rattle.node_holds.specs.Holding.{placings_of, rows_bring, with_placings}
-use Rattle.node_holds.proofs.RowsBring.{brings-rows}
-use Rattle.node_holds.proofs.PlacingTurn.{places-held}
-use Rattle.node_outbox.specs.Outboxes.{OutboxesState}
-use Rattle.node_seats.specs.declared.opened.Opened.TheVariants as kept
+use Rattle.node_turns.specs.Holding.{placings_of, rows_bring, with_placings}
+use Rattle.node_turns.proofs.RowsBring.{brings-rows}
+use Rattle.node_turns.proofs.PlacingTurn.{places-held}
+use Rattle.node_seats.specs.Outboxes.{OutboxesState}
 use Rattle.node_seats.specs.declared.turning.Delivery.{Delivery}
 use Rattle.node_seats.specs.declared.turning.Wanted.{Wanted}
-use Rattle.node_seats.specs.Numbers.{Numbers, opened_at}
+use Rattle.node_seats.specs.Numbers.{Numbers, Opened, opened_at}
 use Rattle.node_seats.specs.Turned.{Turns, Roomier, Delivers, Places, pieces_for}
 use Rattle.poll_turn.specs.Turns.{CaughtState, CursorState, AreMessages, lower_after}
 use Rattle.subscriber_map.specs.HoldMaps.{HoldMap}
-use Rattle.turn_wants.specs.Wants.{confirms_of}
+use Rattle.node_turns.specs.Wants.{confirms_of}
 use Rattle.node_seats.proofs.Composing.{pieces-for-more}
 use Rattle.node_seats.proofs.Delivering.{turn-calls, turn-found, turn-rooms}
-use Rattle.turn_wants.proofs.Confirmed.{turn-confirms}
-use Rattle.turn_wants.proofs.Placing.{turn-places}
-use Rattle.turn_wants.proofs.Wishing.{wished-found}
+use Rattle.node_turns.proofs.Confirmed.{turn-confirms}
+use Rattle.node_turns.proofs.MarksPlaced.{turn-places}
+use Rattle.node_turns.proofs.Wishing.{wished-found}
 use Rattle.node_core.specs.Nodes.{Stands}
 use Rattle.poll_turn.specs.Notes.{note_in}
 use Rattle.node_core.proofs.Asking.{Expected}
@@ -39,10 +38,10 @@ module _ {past : List Step} {v : Numbers} {outs : OutboxesState} {k : CursorStat
 
   -- what the turn brings for a live connection is what the journal says
   puts-are : (c : ℕ) (note : ReadNote) (s : Seated) (ds : List Delivery) → Stands past v outs k holds ws taken → is_out past ≡ true → note.failed ≡ false
-      → ds ≡ rows_bring holds note.rows ++ confirms_of v (take taken ws) → opened_at c v ≡ Some (kept.Live s)
+      → ds ≡ rows_bring holds note.rows ++ confirms_of v (take taken ws) → opened_at c v ≡ Some (Opened.Live s)
       → pieces_for c ds ≡ deliver_puts (user_of c past) (marks c past) (turn_mark c note past) (seat c past).conn.subs note.rows
   puts-are c note s ds h out found is at =
-      let live = h.numbers.each c (kept.Live s) at in
+      let live = h.numbers.each c (Opened.Live s) at in
       let shut : (seat c past).conn.over ≡ false = sym live.0.shows.conn.over ∙ live.1 in
       ap (pieces_for c) is
       ∙ (pieces-for-more c (rows_bring holds note.rows) (confirms_of v (take taken ws))
@@ -54,7 +53,7 @@ module _ {past : List Step} {v : Numbers} {outs : OutboxesState} {k : CursorStat
       → Turns (λ c s t. Becomes (with_turn (turn_mark c note past) (deliver_puts (user_of c past) (marks c past) (turn_mark c note past) (seat c past).conn.subs note.rows) s) t) v v3
   turns-all note v1 v2 v3 ds h out found is room places puts =
       turn-calls (λ c. turn_mark c note past) (λ c. deliver_puts (user_of c past) (marks c past) (turn_mark c note past) (seat c past).conn.subs note.rows) note.last (take taken ws) ds v v1 v2 v3
-      (λ c s at. turn-places c note past s ws taken h.legal out found (h.numbers.each c (kept.Live s) at).0 h.wished)
+      (λ c s at. turn-places c note past s ws taken h.legal out found (h.numbers.each c (Opened.Live s) at).0 h.wished)
       (λ c s at. puts-are c note s ds h out found is at)
       room places puts
 

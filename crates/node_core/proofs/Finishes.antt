@@ -1,9 +1,7 @@
 -- A node that finishes a job goes on standing for its journal.
-use Rattle.std.proofs.Common.{◌≡◌, ◌≤◌, ◌<◌, ◌+◌, ◌-◌, ◌^◌, ◌==◌, ℕ, Bool, true, false, cond, List, [], ◌∷◌, ◌++◌, map, length, Option, Some, None, refl, sym, ap, subst, ◌∙◌, arith}
+use Rattle.std.proofs.Common.{◌≡◌, ◌<◌, ◌+◌, ◌-◌, ◌^◌, ◌==◌, ℕ, Bool, true, false, cond, List, [], ◌∷◌, ◌++◌, map, length, Option, Some, None, refl, sym, ap, subst, ◌∙◌}
 use Rattle.std.specs.Prelude.{option_map, is_some, bytes_eq}
-use Rattle.std.proofs.lemmas.Bool.Decides.{nat_tests}
-use Rattle.std.proofs.lemmas.List.{map-append, length-append, length-map}
-use Rattle.std.proofs.lemmas.List.Elements.{filter-append}
+use Rattle.std.proofs.lemmas.List.{map-append}
 use Rattle.cable_base.specs.declared.numbers.ConnNo.{ConnNo}
 use Rattle.cable_base.specs.declared.numbers.RowId.{RowId}
 use Rattle.cable_model.specs.declared.lines.Line.{Line}
@@ -31,25 +29,22 @@ use Rattle.conn_seat.specs.Seated.{SeatOf, connection_of, marks_at, plan_of_piec
 use Rattle.conn_seat.specs.Seats.{Seated, CanFinish}
 use Rattle.conn_seat.specs.Tasks.{task_in, task_out_of}
 use Rattle.conn_seat.proofs.Answering.{finishable, plans}
-use Rattle.node_holds.specs.Holding.{released}
-use Rattle.node_holds.proofs.Ending.{held-finish}
-use Rattle.node_outbox.specs.declared.outs.Out.{Out}
-use Rattle.node_outbox.specs.declared.outs.Out.TheVariants as out
-use Rattle.node_outbox.specs.declared.outs.Queued.{Queued}
-use Rattle.node_outbox.specs.Outboxes.{OutboxesState, HasRoomFor, Queues, Roomier, is_on, outs_for, room_at}
+use Rattle.node_turns.specs.Holding.{released}
+use Rattle.node_turns.proofs.HoldsEnding.{held-finish}
+use Rattle.conn_seat.specs.declared.outs.Out.{Out}
+use Rattle.conn_seat.specs.declared.outs.Out.TheVariants as out
+use Rattle.node_seats.specs.Outboxes.{OutboxesState, Queues, WidensAll, all_on, outs_for}
 use Rattle.node_seats.specs.AreSeats.{AreSeats}
-use Rattle.node_seats.specs.declared.opened.Opened.{Opened}
-use Rattle.node_seats.specs.declared.opened.Opened.TheVariants as kept
 use Rattle.node_seats.specs.declared.turning.Wanted.{Wanted}
-use Rattle.node_seats.specs.Numbers.{Numbers, Moves, Lives, Prepares, Finished, opened_at, seat_at, seat_in}
+use Rattle.node_seats.specs.Numbers.{Numbers, Opened, Moves, Lives, Prepares, Finished, opened_at, seat_at, seat_in}
 use Rattle.node_seats.proofs.Entries.{finishes, live, prepares}
 use Rattle.node_seats.proofs.Lookups.{found-there}
 use Rattle.node_seats.proofs.Onward.{used-is}
 use Rattle.poll_turn.specs.Turns.{CursorState}
 use Rattle.subscriber_map.specs.HoldMaps.{HoldMap}
-use Rattle.turn_wants.specs.Wished.{AreWished, number_named, wanted_above, wanted_with}
-use Rattle.turn_wants.proofs.Wishing.{wished-finish}
-use Rattle.node_core.specs.Finishing.{IsOutIn, note_on, outs_of, text_on}
+use Rattle.node_turns.specs.Wished.{AreWished, number_named, wanted_above, wanted_with}
+use Rattle.node_turns.proofs.Wishing.{wished-finish}
+use Rattle.node_core.specs.Finishing.{IsOutIn, outs_of}
 use Rattle.node_core.specs.Jobs.{Fits, IsWork, WorkState, task_out}
 use Rattle.node_core.specs.Nodes.{NodeState, Stands, line_on}
 use Rattle.node_core.specs.Nodes as nodes
@@ -61,7 +56,8 @@ use Rattle.node_core.proofs.Telling.{worked}
 task-out-is : (c : ℕ) (past : List Step) (s : Seated) → SeatOf c past s → task_out_of s ≡ task_out c past
 task-out-is c past s h = ap (option_map (task_in s)) h.shows.job ∙ by-job (has_job (seat c past)) (job (seat c past))
   where
-    by-job : (b : Bool) (o : Option Piece) → option_map (task_in s) (cond b (option_map (λ (p : Piece). record { place = (seat c past).taken; piece = p }) o) None)
+    by-job : (b : Bool) (o : Option Piece)
+        → option_map (task_in s) (cond b (option_map (λ (p : Piece). record { place = (seat c past).taken; piece = p }) o) None)
         ≡ cond b (option_map (task_of (seat c past).conn) o) None
     by-job true (Some p) = ap Some (marked-task (marks_at c past) (seat c past).conn (connection_of s) p h.shows.conn)
     by-job true None = refl
@@ -78,7 +74,8 @@ place-in taken place true (Some p) e = let f : Some taken ≡ Some place = e in 
 place-in taken place true None e = absurd (let f : None ≡ Some place = e in cc f)
 place-in taken place false o e = absurd (let f : None ≡ Some place = e in cc f)
 
-place-out : (taken place : ℕ) (k : Conn) (t : Task) (b : Bool) (o : Option Piece) → cond b (option_map (task_of k) o) None ≡ Some t → place ≡ taken → places (out_with taken b o) ≡ Some place
+place-out : (taken place : ℕ) (k : Conn) (t : Task) (b : Bool) (o : Option Piece) → cond b (option_map (task_of k) o) None ≡ Some t → place ≡ taken
+    → places (out_with taken b o) ≡ Some place
 place-out taken place k t true (Some p) e is = ap Some (sym is)
 place-out taken place k t true None e is = absurd (let f : None ≡ Some t = e in cc f)
 place-out taken place k t false o e is = absurd (let f : None ≡ Some t = e in cc f)
@@ -93,9 +90,9 @@ out-in c place t past v a i = by-kept (opened_at c v) refl i
   where
     by-kept : (o : Option Opened) → opened_at c v ≡ o → IsOutIn place t (seat_in o) → IsOutOn c place t past
     by-kept None at i = absurd i
-    by-kept (Some kept.Over) at i = absurd i
-    by-kept (Some (kept.Live s)) at i =
-        let h = (a.each c (kept.Live s) at).0 in
+    by-kept (Some Opened.Over) at i = absurd i
+    by-kept (Some (Opened.Live s)) at i =
+        let h = (a.each c (Opened.Live s) at).0 in
         record {
           place_is = place-in (seat c past).taken place (has_job (seat c past)) (job (seat c past)) (sym (ap places h.shows.job) ∙ i.place_is);
           task_is = sym (task-out-is c past s h) ∙ i.task_is;
@@ -111,11 +108,12 @@ in-out c place t past v a i = by-kept (opened_at c v) refl (used-is past v c a)
 
     by-kept : (o : Option Opened) → opened_at c v ≡ o → is_some o ≡ is_opened c past → IsOutIn place t (seat_in o)
     by-kept None at used = no-task (ap (λ (s : Seat). has_job s) (a.unopened c (sym used)))
-    by-kept (Some kept.Over) at used = no-task (a.each c kept.Over at).job
-    by-kept (Some (kept.Live s)) at used =
-        let h = (a.each c (kept.Live s) at).0 in
+    by-kept (Some Opened.Over) at used = no-task (a.each c Opened.Over at).job
+    by-kept (Some (Opened.Live s)) at used =
+        let h = (a.each c (Opened.Live s) at).0 in
         record {
-          place_is = ap places h.shows.job ∙ place-out (seat c past).taken place (seat c past).conn t (has_job (seat c past)) (job (seat c past)) i.task_is i.place_is;
+          place_is =
+              ap places h.shows.job ∙ place-out (seat c past).taken place (seat c past).conn t (has_job (seat c past)) (job (seat c past)) i.task_is i.place_is;
           task_is = task-out-is c past s h ∙ i.task_is;
         }
 
@@ -132,9 +130,12 @@ out-on w n f = record { place_is = f.out.place; task_is = f.out.task }
 
 -- when work fits, told by what is kept of its number
 pub fits-as : (w : WorkState) (n : NodeState) (v : Numbers) (b : Bool) → AreSeats (nodes.past n) v → w.node ≡ n.no → length w.puts ≡ length w.plan.casts
-    → (b ≡ true → IsOutIn w.place w.task (seat_at w.conn.0 v)) → (IsOutIn w.place w.task (seat_at w.conn.0 v) → b ≡ true) → (b ≡ true → Fits w n) × (Fits w n → b ≡ true)
+    → (b ≡ true → IsOutIn w.place w.task (seat_at w.conn.0 v)) → (IsOutIn w.place w.task (seat_at w.conn.0 v) → b ≡ true)
+    → (b ≡ true → Fits w n) × (Fits w n → b ≡ true)
 fits-as w n v b a node done there back = (
-  λ t. (let i = out-in w.conn.0 w.place w.task (nodes.past n) v a (there t) in record { out = record { node = node; place = i.place_is; task = i.task_is }; done = done }),
+  λ t.
+      (let i = out-in w.conn.0 w.place w.task (nodes.past n) v a (there t) in
+      record { out = record { node = node; place = i.place_is; task = i.task_is }; done = done }),
   λ f. back (in-out w.conn.0 w.place w.task (nodes.past n) v a (out-on w n f)),
 )
 
@@ -183,10 +184,12 @@ task-there k t true None p is e = absurd (cc is)
 task-there k t false o p is e = absurd (let f : None ≡ Some t = e in cc f)
 
 -- the callbacks answered what the plan of a work is made of, whoever the user is
-pub answered-out : (c place : ℕ) (t : Task) (plan : Plan) (puts : List (Option RowId)) (capacity : ℕ) (past : List Step) (w : IsWork t plan puts capacity) → IsOutOn c place t past
+pub answered-out : (c place : ℕ) (t : Task) (plan : Plan) (puts : List (Option RowId)) (capacity : ℕ) (past : List Step) (w : IsWork t plan puts capacity)
+    → IsOutOn c place t past
     → IsJobAnswered (ignoring w.callbacks w.user) c past
 answered-out c place t plan puts capacity past w i user p opened out =
-    subst (IsAnswered (ignoring w.callbacks w.user) user) (task-there (seat c past).conn t (has_job (seat c past)) (job (seat c past)) p out i.task_is) (answered-any w.callbacks w.user user t w.answered)
+    subst (IsAnswered (ignoring w.callbacks w.user) user) (task-there (seat c past).conn t (has_job (seat c past)) (job (seat c past)) p out i.task_is)
+    (answered-any w.callbacks w.user user t w.answered)
 
 plan-of-task : (r : Callbacks) (user : List ℕ) (k : Conn) (t : Task) (b : Bool) (u : Option (List ℕ)) (o : Option Piece) → u ≡ Some user
     → cond b (option_map (task_of k) o) None ≡ Some t → cond b (planned r u k o) None ≡ Some (plan_for r user t)
@@ -198,22 +201,24 @@ plan-of-task r user k t true u None is e = absurd (let f : None ≡ Some t = e i
 plan-of-task r user k t false u o is e = absurd (let f : None ≡ Some t = e in cc f)
 
 -- the plan of a work is one of the job that is out
-pub plan-out : (c place : ℕ) (t : Task) (plan : Plan) (puts : List (Option RowId)) (capacity : ℕ) (past : List Step) (v : Numbers) (w : IsWork t plan puts capacity) → AreSeats past v
+pub plan-out : (c place : ℕ) (t : Task) (plan : Plan) (puts : List (Option RowId)) (capacity : ℕ) (past : List Step) (v : Numbers)
+    (w : IsWork t plan puts capacity) → AreSeats past v
     → IsOutOn c place t past → job_plan (ignoring w.callbacks w.user) c past ≡ Some plan
 plan-out c place t plan puts capacity past v w a i = by-kept (opened_at c v) refl (in-out c place t past v a i)
   where
     by-kept : (o : Option Opened) → opened_at c v ≡ o → IsOutIn place t (seat_in o) → job_plan (ignoring w.callbacks w.user) c past ≡ Some plan
     by-kept None at i2 = absurd i2
-    by-kept (Some kept.Over) at i2 = absurd i2
-    by-kept (Some (kept.Live s)) at i2 =
-        plan-of-task (ignoring w.callbacks w.user) s.user (seat c past).conn t (has_job (seat c past)) (user_of c past) (job (seat c past)) (a.each c (kept.Live s) at).0.user i.task_is
+    by-kept (Some Opened.Over) at i2 = absurd i2
+    by-kept (Some (Opened.Live s)) at i2 =
+        plan-of-task (ignoring w.callbacks w.user) s.user (seat c past).conn t (has_job (seat c past)) (user_of c past) (job (seat c past))
+        (a.each c (Opened.Live s) at).0.user i.task_is
         ∙ ap Some (plan-any w.callbacks w.user s.user t ∙ sym w.planned)
 
 -- ---- it can be finished
 
 -- a live connection with room for the plan of its job
 pub record Ready (c : ℕ) (past : List Step) (plan : Plan) (v : Numbers) (s : Seated) : Type 0 where
-  pub at : opened_at c v ≡ Some (kept.Live s)
+  pub at : opened_at c v ≡ Some (Opened.Live s)
   pub seated : SeatOf c past s
   pub can : CanFinish plan.change s
 
@@ -231,14 +236,16 @@ can-finish r c past plan s legal h planned_as reserved numbers = by-job s.job re
         let f : Some plan ≡ Some (plan_of_piece r s p.piece) = sym planned_as ∙ (plans pl.0 c past s pl.1 h).out r p e in
         let same : plan ≡ plan_of_piece r s p.piece = cc f in
         subst (λ (x : Plan). CanFinish x.change s) (sym same)
-        (finishable pl.0 r c past s p pl.1 h e (reserved ∙ ap (λ (x : Plan). Some x.change) same) (subst (λ (x : Plan). s.made + makes x.change < 2 ^ 64 - 1) same numbers))
+        (finishable pl.0 r c past s p pl.1 h e (reserved ∙ ap (λ (x : Plan). Some x.change) same)
+        (subst (λ (x : Plan). s.made + makes x.change < 2 ^ 64 - 1) same numbers))
 
 pub ready : (r : Callbacks) (c : ℕ) (past : List Step) (plan : Plan) (v new : Numbers) → Legal past → AreSeats past v → job_plan r c past ≡ Some plan
     → Moves c (Lives (Prepares plan.change)) v new → (s : Seated) × Ready c past plan new s
 ready r c past plan v new legal a planned_as m =
     let l = live (Prepares plan.change) c v new m in
-    let at : opened_at c new ≡ Some (kept.Live l.new_seat) = ap (opened_at c) l.now ∙ found-there c (kept.Live l.new_seat) (kept.Live l.old_seat) v l.found in
-    let h = (prepares plan.change c past v new a m).each c (kept.Live l.new_seat) at in (
+    let at : opened_at c new ≡ Some (Opened.Live l.new_seat) =
+    ap (opened_at c) l.now ∙ found-there c (Opened.Live l.new_seat) (Opened.Live l.old_seat) v l.found in
+    let h = (prepares plan.change c past v new a m).each c (Opened.Live l.new_seat) at in (
       l.new_seat,
       record {
         at = at;
@@ -249,69 +256,40 @@ ready r c past plan v new legal a planned_as m =
 
 -- ---- what it queues
 
-outs-append : (c : ℕ) (ps qs : List Queued) → outs_for c (ps ++ qs) ≡ outs_for c ps ++ outs_for c qs
-outs-append c ps qs = ap (map (λ (q : Queued). q.out)) (filter-append (is_on c) ps qs) ∙ map-append (λ (q : Queued). q.out) _ _
-
-outs-on : {A : Type 0} (conn : ConnNo) (f : A → Out) (xs : List A) (c : ℕ) (b : Bool) → (conn.0 == c) ≡ b → outs_for c (map (λ x. record { conn = conn; out = f x }) xs) ≡ cond b (map f xs) []
-outs-on conn f [] c true e = refl
-outs-on conn f [] c false e = refl
-outs-on conn f (x ∷ xs) c true e = rw e (ap (λ (os : List Out). f x ∷ os) (outs-on conn f xs c true e))
-outs-on conn f (x ∷ xs) c false e = rw e (outs-on conn f xs c false e)
-
-abbrev outs_in : Plan → List Out
-outs_in plan = map (λ (text : List ℕ). out.Text text) plan.texts ++ map out.Note plan.notes
-
-outs-are : (conn : ConnNo) (plan : Plan) (c : ℕ) (b : Bool) → (conn.0 == c) ≡ b → outs_for c (outs_of conn plan) ≡ cond b (outs_in plan) []
-outs-are conn plan c b e =
-    outs-append c (map (text_on conn) plan.texts) (map (note_on conn) plan.notes)
-    ∙ (ap (λ (os : List Out). os ++ outs_for c (map (note_on conn) plan.notes)) (outs-on conn (λ (text : List ℕ). out.Text text) plan.texts c b e)
-    ∙ (ap (λ (os : List Out). cond b (map (λ (text : List ℕ). out.Text text) plan.texts) [] ++ os) (outs-on conn out.Note plan.notes c b e) ∙ both b))
-  where
-    both : (b : Bool) → cond b (map (λ (text : List ℕ). out.Text text) plan.texts) [] ++ cond b (map out.Note plan.notes) [] ≡ cond b (outs_in plan) []
-    both true = refl
-    both false = refl
-
-outs-length : (conn : ConnNo) (plan : Plan) → length (outs_in plan) ≡ length (outs_of conn plan)
-outs-length conn plan =
-    let a = length-append (map (λ (text : List ℕ). out.Text text) plan.texts) (map out.Note plan.notes) in
-    let b = length-append (map (text_on conn) plan.texts) (map (note_on conn) plan.notes) in
-    rw (a, b, length-map, length-map, length-map, length-map) refl
-
-pub room-for : (conn : ConnNo) (plan : Plan) (more : ℕ) (v : OutboxesState) → more ≡ length (outs_of conn plan) → more ≤ room_at conn.0 v → HasRoomFor (outs_of conn plan) v
-room-for conn plan more v is room c = by-test (conn.0 == c) refl
-  where
-    by-test : (b : Bool) → (conn.0 == c) ≡ b → length (outs_for c (outs_of conn plan)) ≤ room_at c v
-    by-test false e = subst (λ (os : List Out). length os ≤ room_at c v) (sym (outs-are conn plan c false e)) (omega arith)
-    by-test true e =
-        let same : conn.0 ≡ c = grind (arith, nat_tests) in
-        let enough : length (outs_in plan) ≤ room_at c v = subst (λ (n : ℕ). length (outs_in plan) ≤ room_at n v) same (let l = outs-length conn plan in omega (arith, l, is, room)) in
-        subst (λ (os : List Out). length os ≤ room_at c v) (sym (outs-are conn plan c true e)) enough
+-- what is queued on one connection stands there, and nowhere else
+outs-on : (conn : ConnNo) (os : List Out) (c : ℕ) (b : Bool) → (conn.0 == c) ≡ b → outs_for c (all_on conn os) ≡ cond b os []
+outs-on conn [] c true e = refl
+outs-on conn [] c false e = refl
+outs-on conn (o ∷ os) c true e = rw e (ap (λ (ps : List Out). o ∷ ps) (outs-on conn os c true e))
+outs-on conn (o ∷ os) c false e = rw e (outs-on conn os c false e)
 
 map-through : {A B C : Type 0} (g : B → C) (f : A → B) (xs : List A) → map g (map f xs) ≡ map (λ x. g (f x)) xs
 map-through g f [] = refl
 map-through g f (x ∷ xs) = ap (λ ys. g (f x) ∷ ys) (map-through g f xs)
 
-plan-said : (c : ℕ) (plan : Plan) → map (line_on c) (outs_in plan) ≡ plan_lines c plan
+plan-said : (c : ℕ) (plan : Plan) → map (line_on c) (outs_of plan) ≡ plan_lines c plan
 plan-said c plan =
-    map-append (line_on c) (map (λ (text : List ℕ). out.Text text) plan.texts) (map out.Note plan.notes)
+    map-append (line_on c) (map out.Text plan.texts) (map out.Note plan.notes)
     ∙ (ap (λ (ls : List Line). ls ++ map (line_on c) (map out.Note plan.notes)) (map-through (line_on c) (λ (text : List ℕ). out.Text text) plan.texts)
     ∙ ap (λ (ls : List Line). map (conn_line c) plan.texts ++ ls) (map-through (line_on c) out.Note plan.notes))
 
 -- what a Finish queues is what its plan says
-finish-says : (conn : ConnNo) (puts : List (Option RowId)) (plan : Plan) (past : List Step) (c : ℕ) → queued c (Step.Finish conn.0 puts plan ∷ past) ≡ queued c past ++ lines_on c (outs_of conn plan)
+finish-says : (conn : ConnNo) (puts : List (Option RowId)) (plan : Plan) (past : List Step) (c : ℕ)
+    → queued c (Step.Finish conn.0 puts plan ∷ past) ≡ queued c past ++ lines_on c (all_on conn (outs_of plan))
 finish-says conn puts plan past c = by-test (conn.0 == c) refl
   where
     nothing-more : (ls : List Line) → ls ≡ ls ++ []
     nothing-more [] = refl
     nothing-more (l ∷ ls) = ap (λ (ms : List Line). l ∷ ms) (nothing-more ls)
 
-    by-test : (b : Bool) → (conn.0 == c) ≡ b → cond (conn.0 == c) (queued c past ++ plan_lines c plan) (queued c past) ≡ queued c past ++ lines_on c (outs_of conn plan)
+    by-test : (b : Bool) → (conn.0 == c) ≡ b
+        → cond (conn.0 == c) (queued c past ++ plan_lines c plan) (queued c past) ≡ queued c past ++ lines_on c (all_on conn (outs_of plan))
     by-test true e =
         ap (λ b. cond b (queued c past ++ plan_lines c plan) (queued c past)) e
-        ∙ ap (λ (ls : List Line). queued c past ++ ls) (sym (ap (map (line_on c)) (outs-are conn plan c true e) ∙ plan-said c plan))
+        ∙ ap (λ (ls : List Line). queued c past ++ ls) (sym (ap (map (line_on c)) (outs-on conn (outs_of plan) c true e) ∙ plan-said c plan))
     by-test false e =
         ap (λ b. cond b (queued c past ++ plan_lines c plan) (queued c past)) e
-        ∙ (nothing-more (queued c past) ∙ ap (λ (ls : List Line). queued c past ++ ls) (sym (ap (map (line_on c)) (outs-are conn plan c false e))))
+        ∙ (nothing-more (queued c past) ∙ ap (λ (ls : List Line). queued c past ++ ls) (sym (ap (map (line_on c)) (outs-on conn (outs_of plan) c false e))))
 
 -- ---- the wants that it makes
 
@@ -324,7 +302,8 @@ number-bare identifier ms (s ∷ ss) = by-test (bytes_eq s.identifier identifier
     by-test true e ih = rw e refl
     by-test false e ih = rw e ih
 
-wanted-bare : (c place n : ℕ) (ms : Marks) (ss : List Sub) (x : Change) → wanted_with c place n ss x ≡ wanted_with c place n (bare (map (marked_sub ms) ss)).subs x
+wanted-bare : (c place n : ℕ) (ms : Marks) (ss : List Sub) (x : Change)
+    → wanted_with c place n ss x ≡ wanted_with c place n (bare (map (marked_sub ms) ss)).subs x
 wanted-bare c place n ms ss change.Nothing = refl
 wanted-bare c place n ms ss (change.Add identifier streams) = refl
 wanted-bare c place n ms ss (change.Streams identifier stops streams) = ap (λ (m : ℕ). wanted_above c m n false streams) (number-bare identifier ms ss)
@@ -342,11 +321,14 @@ wanted-is c place past s x h is =
 -- ---- the entry
 
 module _ {past : List Step} {v : Numbers} {outs : OutboxesState} {k : CursorState} {holds : HoldMap} {ws : List Wanted} {taken : ℕ} where
-  pub finishes-as : (r : Callbacks) (conn : ConnNo) (place : ℕ) (puts : List (Option RowId)) (plan : Plan) (v1 v2 : Numbers) (s : Seated) (roomy new : OutboxesState) → Stands past v outs k holds ws taken
+  pub finishes-as : (r : Callbacks) (conn : ConnNo) (place : ℕ) (puts : List (Option RowId)) (plan : Plan) (v1 v2 : Numbers) (s : Seated)
+      (roomy new : OutboxesState)
+      → Stands past v outs k holds ws taken
       → place ≡ (seat conn.0 past).taken → job_plan r conn.0 past ≡ Some plan → IsJobAnswered r conn.0 past → length puts ≡ length plan.casts
       → Moves conn.0 (Lives (Prepares plan.change)) v v1 → Ready conn.0 past plan v1 s → Moves conn.0 (Finished plan.change) v1 v2
-      → Roomier outs roomy → Queues (outs_of conn plan) roomy new
-      → Stands (Step.Finish conn.0 puts plan ∷ past) v2 new k (released conn.0 plan.change s.user s.subs holds) (ws ++ wanted_with conn.0 place s.made (bare s.subs).subs plan.change) taken
+      → WidensAll outs roomy → Queues (all_on conn (outs_of plan)) roomy new
+      → Stands (Step.Finish conn.0 puts plan ∷ past) v2 new k (released conn.0 plan.change s.user s.subs holds)
+      (ws ++ wanted_with conn.0 place s.made (bare s.subs).subs plan.change) taken
   finishes-as r conn place puts plan v1 v2 s roomy new h is out answered done prepared at finished room said =
       let legal : Legal (Step.Finish conn.0 puts plan ∷ past) = ((record { callbacks = r; planned = out; answered = answered }, done), h.legal) in
       record {
@@ -354,9 +336,14 @@ module _ {past : List Step} {v : Numbers} {outs : OutboxesState} {k : CursorStat
         legal = legal;
         messages = h.messages;
         numbers = finishes r conn.0 puts plan past v1 v2 (worked past h.legal) (prepares plan.change conn.0 past v v1 h.numbers prepared) out
-            (λ t there. let e : Some (kept.Live s) ≡ Some (kept.Live t) = sym at.at ∙ there in let same : s ≡ t = cc e in subst (λ (x : Seated). CanFinish plan.change x) same at.can) finished;
-        queues = λ c. says c past (Step.Finish conn.0 puts plan ∷ past) roomy new (outs_of conn plan) (roomier past outs roomy h.queues room c) said (finish-says conn puts plan past c);
+            (λ t there. let e : Some (Opened.Live s) ≡ Some (Opened.Live t) = sym at.at ∙ there in
+            let same : s ≡ t = cc e in subst (λ (x : Seated). CanFinish plan.change x) same at.can) finished;
+        queues = λ c.
+            says c past (Step.Finish conn.0 puts plan ∷ past) roomy new (all_on conn (outs_of plan)) (roomier past outs roomy h.queues room c) said
+            (finish-says conn puts plan past c);
         listens = record { lower_is = h.listens.lower_is; turns = h.listens.turns; out = h.listens.out };
         held = held-finish conn.0 puts plan past s holds legal at.seated h.held;
-        wished = subst (λ (more : List Wanted). AreWished (Step.Finish conn.0 puts plan ∷ past) (ws ++ more) taken) (wanted-is conn.0 place past s plan.change at.seated is) (wished-finish conn.0 puts plan past ws taken legal h.wished);
+        wished =
+            subst (λ (more : List Wanted). AreWished (Step.Finish conn.0 puts plan ∷ past) (ws ++ more) taken)
+            (wanted-is conn.0 place past s plan.change at.seated is) (wished-finish conn.0 puts plan past ws taken legal h.wished);
       }

@@ -1,21 +1,27 @@
 -- A ping on each connection that is live and not closing is what a Beat queues, and there is room for it.
-use Rattle.std.proofs.Common.{◌≡◌, ◌≤◌, ℕ, suc, ◌==◌, Bool, true, false, cond, List, [], ◌∷◌, map, filter, length, refl, sym, ap, ◌∙◌, arith}
+use Rattle.std.proofs.Common.{◌≡◌, ◌≤◌, ℕ, suc, ◌==◌, Bool, true, false, cond, List, [], ◌∷◌, map, filter, length, Some, refl, sym, ap, ◌∙◌, arith}
+use Rattle.std.specs.Prelude.{is_some}
+use Rattle.std.specs.BTreeMap.{is_at}
 use Rattle.std.specs.List.{list_any, AllByRecursion, IsDistinct}
 use Rattle.std.specs.Ordering.{nat_cmp, eq_by_cmp}
 use Rattle.std.proofs.lemmas.Bool.Decides.{nat_tests}
 use Rattle.cable_base.specs.declared.numbers.ConnNo.{ConnNo}
+use Rattle.cable_base.proofs.Each.{All-implied}
 use Rattle.cable_model.specs.declared.lines.Line.{Line}
 use Rattle.cable_model.specs.Transcript.{ping_line}
-use Rattle.node_outbox.specs.Outboxes.{outs_for}
+use Rattle.node_seats.specs.Numbers.{Numbers, Opened, is_receiving_in, opened_at, receiving_among}
+use Rattle.node_seats.specs.Outboxes.{outs_for}
 use Rattle.node_core.specs.Nodes.{ping_of}
 use Rattle.node_core.proofs.Queueing.{lines_on}
-use Rattle.node_seats.proofs.Lookups.{at-is}
+use Rattle.node_seats.proofs.Lookups.{at-is, at-self}
 
-ping-lines : (now c : ℕ) (cs : List ConnNo) → lines_on c (map (ping_of now) cs) ≡ map (λ (d : ℕ). ping_line now c) (filter (λ d. d == c) (map (λ (d : ConnNo). d.0) cs))
+ping-lines : (now c : ℕ) (cs : List ConnNo)
+    → lines_on c (map (ping_of now) cs) ≡ map (λ (d : ℕ). ping_line now c) (filter (λ d. d == c) (map (λ (d : ConnNo). d.0) cs))
 ping-lines now c [] = refl
 ping-lines now c (x ∷ cs) = by-test (x.0 == c) refl (ping-lines now c cs)
   where
-    by-test : (b : Bool) → (x.0 == c) ≡ b → lines_on c (map (ping_of now) cs) ≡ map (λ (d : ℕ). ping_line now c) (filter (λ d. d == c) (map (λ (d : ConnNo). d.0) cs))
+    by-test : (b : Bool) → (x.0 == c) ≡ b
+        → lines_on c (map (ping_of now) cs) ≡ map (λ (d : ℕ). ping_line now c) (filter (λ d. d == c) (map (λ (d : ConnNo). d.0) cs))
         → lines_on c (map (ping_of now) (x ∷ cs)) ≡ map (λ (d : ℕ). ping_line now c) (filter (λ d. d == c) (x.0 ∷ map (λ (d : ConnNo). d.0) cs))
     by-test true e ih = rw e (ap (λ (ls : List Line). ping_line now c ∷ ls) ih)
     by-test false e ih = rw e ih
@@ -28,7 +34,8 @@ unchosen c p (k ∷ ks) out = by-test (p k) refl (k == c) refl (unchosen c p ks 
     same : (k == c) ≡ true → k ≡ c
     same t = grind (arith, nat_tests)
 
-    by-test : (a : Bool) → p k ≡ a → (b : Bool) → (k == c) ≡ b → filter (λ d. d == c) (filter p ks) ≡ [] → filter (λ d. d == c) (cond a (k ∷ filter p ks) (filter p ks)) ≡ []
+    by-test : (a : Bool) → p k ≡ a → (b : Bool) → (k == c) ≡ b → filter (λ d. d == c) (filter p ks) ≡ []
+        → filter (λ d. d == c) (cond a (k ∷ filter p ks) (filter p ks)) ≡ []
     by-test true a true b ih = let f : false ≡ true = sym out ∙ sym (ap p (same b)) ∙ a in absurd cc
     by-test true a false b ih = rw b ih
     by-test false a b is ih = ih
@@ -50,7 +57,8 @@ others c k (y ∷ ks) e h = (other (sym (at-is k y) ∙ h.0) e, others c k ks e 
     other f t = grind (arith, nat_tests)
 
 -- one that is there and chosen is once among the chosen
-pub once : (c : ℕ) (p : ℕ → Bool) (ks : List ℕ) → IsDistinct (eq_by_cmp nat_cmp) ks → list_any (λ d. d == c) ks ≡ true → p c ≡ true → filter (λ d. d == c) (filter p ks) ≡ c ∷ []
+pub once : (c : ℕ) (p : ℕ → Bool) (ks : List ℕ) → IsDistinct (eq_by_cmp nat_cmp) ks → list_any (λ d. d == c) ks ≡ true → p c ≡ true
+    → filter (λ d. d == c) (filter p ks) ≡ c ∷ []
 unfolding IsDistinct
 once c p [] apart there chosen = absurd cc
 once c p (k ∷ ks) apart there chosen = by-test (k == c) refl (p k) refl there (once c p ks apart.1)
@@ -93,15 +101,18 @@ among-them : (c : ℕ) (cs : List ConnNo) → filter (λ d. d == c) (map (λ (d 
 among-them c [] e = absurd cc
 among-them c (x ∷ cs) e = by-test (x.0 == c) refl e (among-them c cs)
   where
-    by-test : (b : Bool) → (x.0 == c) ≡ b → cond b (x.0 ∷ filter (λ d. d == c) (map (λ (d : ConnNo). d.0) cs)) (filter (λ d. d == c) (map (λ (d : ConnNo). d.0) cs)) ≡ c ∷ []
+    by-test : (b : Bool) → (x.0 == c) ≡ b
+        → cond b (x.0 ∷ filter (λ d. d == c) (map (λ (d : ConnNo). d.0) cs)) (filter (λ d. d == c) (map (λ (d : ConnNo). d.0) cs)) ≡ c ∷ []
         → (filter (λ d. d == c) (map (λ (d : ConnNo). d.0) cs) ≡ c ∷ [] → list_any (λ (d : ConnNo). d.0 == c) cs ≡ true)
         → list_any (λ (d : ConnNo). d.0 == c) (x ∷ cs) ≡ true
     by-test true t e ih = rw t refl
     by-test false t e ih = rw t (ih e)
 
 -- one is enough on each
-pub ping-room : (now c : ℕ) (p : ℕ → Bool) (ks : List ℕ) (cs : List ConnNo) (room : ℕ) → IsDistinct (eq_by_cmp nat_cmp) ks → map (λ (d : ConnNo). d.0) cs ≡ filter p ks
-    → (p c ≡ true → list_any (λ d. d == c) ks ≡ true) → (list_any (λ (d : ConnNo). d.0 == c) cs ≡ true → 1 ≤ room) → length (outs_for c (map (ping_of now) cs)) ≤ room
+pub ping-room : (now c : ℕ) (p : ℕ → Bool) (ks : List ℕ) (cs : List ConnNo) (room : ℕ) → IsDistinct (eq_by_cmp nat_cmp) ks
+    → map (λ (d : ConnNo). d.0) cs ≡ filter p ks
+    → (p c ≡ true → list_any (λ d. d == c) ks ≡ true) → (list_any (λ (d : ConnNo). d.0 == c) cs ≡ true → 1 ≤ room)
+    → length (outs_for c (map (ping_of now) cs)) ≤ room
 ping-room now c p ks cs room apart is there enough = by-test (p c) refl
   where
     by-test : (b : Bool) → p c ≡ b → length (outs_for c (map (ping_of now) cs)) ≤ room
@@ -112,3 +123,30 @@ ping-room now c p ks cs room apart is there enough = by-test (p c) refl
     by-test false e =
         let none : filter (λ d. d == c) (map (λ (d : ConnNo). d.0) cs) ≡ [] = ap (filter (λ d. d == c)) is ∙ unchosen c p ks e in
         omega (arith, ping-count now c cs, ap length none)
+
+-- ---- each of them was opened
+
+opened-behind : (d : ℕ) (e : ℕ × Opened) (v : Numbers) → is_some (opened_at d v) ≡ true → is_some (opened_at d (e ∷ v)) ≡ true
+opened-behind d e v o = by-test (is_at (nat_cmp d) e.0) o
+  where
+    by-test : (b : Bool) → is_some (opened_at d v) ≡ true → is_some (cond b (Some e.1) (opened_at d v)) ≡ true
+    by-test true o = refl
+    by-test false o = o
+
+abbrev WasOpened : Numbers → ConnNo → Type 0
+WasOpened v d = is_some (opened_at d.0 v) ≡ true
+
+pub receivers-opened : (v : Numbers) → AllByRecursion (λ (d : ConnNo). is_some (opened_at d.0 v) ≡ true) (receiving_among v)
+receivers-opened [] = tt
+receivers-opened (e ∷ v) = by-test (is_receiving_in e.1) (receivers-opened v)
+  where
+    behind : AllByRecursion (WasOpened v) (receiving_among v) → AllByRecursion (WasOpened (e ∷ v)) (receiving_among v)
+    behind all = All-implied (WasOpened v) (WasOpened (e ∷ v)) (receiving_among v) (λ d o. opened-behind d.0 e v o) all
+
+    first : is_some (opened_at e.0 (e ∷ v)) ≡ true
+    first = let s = at-self e.0 in rw s refl
+
+    by-test : (b : Bool) → AllByRecursion (WasOpened v) (receiving_among v)
+        → AllByRecursion (WasOpened (e ∷ v)) (cond b (record { 0 = e.0 } ∷ receiving_among v) (receiving_among v))
+    by-test true all = (first, behind all)
+    by-test false all = behind all

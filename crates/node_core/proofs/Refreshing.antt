@@ -7,7 +7,7 @@ use Rattle.std.proofs.lemmas.List.Elements.{filter-append}
 use Rattle.std.proofs.lemmas.List.Folds.{list_any-append}
 use Rattle.cable_base.specs.declared.numbers.ConnNo.{ConnNo}
 use Rattle.cable_base.proofs.Filters.{filter-same, filter-twice}
-use Rattle.node_holds.proofs.HoldsOn.{filter-every}
+use Rattle.node_turns.proofs.HoldsOn.{filter-every}
 use Rattle.node_seats.specs.Numbers.{Numbers, may_take_at}
 use Rattle.node_seats.proofs.Entries.{self}
 use Rattle.run_queue.specs.ReadyLists.{has_number}

@@ -12,8 +12,8 @@ use Rattle.cable_model.specs.Limits.{most_connections}
 use Rattle.cable_model.specs.Possible.{opened, is_opened, is_receiving, live_count, can_open}
 use Rattle.cable_model.specs.Steps.{Step}
 use Rattle.cable_model.specs.Transcript.{queued, ping_line, conn_line, greeting}
-use Rattle.node_outbox.specs.declared.outs.Out.TheVariants as out
-use Rattle.node_outbox.specs.Outboxes.{OutboxesState, Queues, Roomier, HasRoomFor, room_at}
+use Rattle.conn_seat.specs.declared.outs.Out.TheVariants as out
+use Rattle.node_seats.specs.Outboxes.{OutboxesState, Queues, CanQueue, room_at}
 use Rattle.node_seats.specs.declared.turning.Wanted.{Wanted}
 use Rattle.node_seats.specs.Numbers.{Numbers, Rising, receiving_among}
 use Rattle.node_seats.specs.AreSeats.{AreSeats}
@@ -22,14 +22,14 @@ use Rattle.node_seats.proofs.Counting.{receiving-all}
 use Rattle.node_seats.proofs.Opening.{opened-with, refused}
 use Rattle.poll_turn.specs.Turns.{CursorState}
 use Rattle.subscriber_map.specs.HoldMaps.{HoldMap}
-use Rattle.turn_wants.specs.Wished.{own_wanted}
+use Rattle.node_turns.specs.Wished.{own_wanted}
 use Rattle.node_core.specs.Nodes.{Stands, ping_of}
 use Rattle.node_core.specs.Opening.{OpensAs}
-use Rattle.node_holds.proofs.Staying.{held-open}
-use Rattle.turn_wants.proofs.Wishing.{wished-open}
+use Rattle.node_turns.proofs.HoldsStaying.{held-open}
+use Rattle.node_turns.proofs.Wishing.{wished-open}
 use Rattle.node_core.proofs.Pinging.{pinged, ping-room}
 use Rattle.node_core.proofs.Queueing.{says, lines_on}
-use Rattle.node_core.proofs.Standing.{onto, room-out}
+use Rattle.node_core.proofs.Standing.{onto}
 use Rattle.node_core.proofs.Telling.{worked, receiving-opened}
 
 -- ---- a beat
@@ -42,14 +42,17 @@ with-ping true ls l = refl
 with-ping false [] l = refl
 with-ping false (x ∷ ls) l = ap (λ (ms : List Line). x ∷ ms) (with-ping false ls l)
 
-greeted : (c d : ℕ) (ls : List Line) (text : List ℕ) → cond (c == d) (ls ++ conn_line d text ∷ []) ls ≡ ls ++ lines_on d (record { conn = record { 0 = c }; out = out.Text text } ∷ [])
+greeted : (c d : ℕ) (ls : List Line) (text : List ℕ)
+    → cond (c == d) (ls ++ conn_line d text ∷ []) ls ≡ ls ++ lines_on d (record { conn = record { 0 = c }; out = out.Text text } ∷ [])
 greeted c d ls text = by-test (c == d) refl
   where
-    by-test : (b : Bool) → (c == d) ≡ b → cond b (ls ++ conn_line d text ∷ []) ls ≡ ls ++ lines_on d (record { conn = record { 0 = c }; out = out.Text text } ∷ [])
+    by-test : (b : Bool) → (c == d) ≡ b
+        → cond b (ls ++ conn_line d text ∷ []) ls ≡ ls ++ lines_on d (record { conn = record { 0 = c }; out = out.Text text } ∷ [])
     by-test true e = rw e refl
     by-test false e = rw e (with-ping false ls (conn_line d text))
 
-opens-as : (c : ℕ) (token : List ℕ) (user : Option (List ℕ)) (past : List Step) (v new : Numbers) → AreSeats past v → is_opened c past ≡ false → OpensAs c user v new → Rising new
+opens-as : (c : ℕ) (token : List ℕ) (user : Option (List ℕ)) (past : List Step) (v new : Numbers) → AreSeats past v → is_opened c past ≡ false
+    → OpensAs c user v new → Rising new
     → AreSeats (Step.Open c token user ∷ past) new
 opens-as c token None past v new a free now rising = refused c token past v new a free now rising
 opens-as c token (Some user) past v new a free s rising = opened-with c token user past v new s.0 a free s.1 s.2 rising
@@ -57,7 +60,8 @@ opens-as c token (Some user) past v new a free s rising = opened-with c token us
 module _ {past : List Step} {v : Numbers} {outs : OutboxesState} {k : CursorState} {holds : HoldMap} {ws : List Wanted} {taken : ℕ} where
   -- where there is room for one more on each, there is room for the pings
   pub beat-room : (now : ℕ) (roomy : OutboxesState) → Stands past v outs k holds ws taken
-      → ((c : ℕ) → list_any (λ (d : ConnNo). d.0 == c) (receiving_among v) ≡ true → 1 ≤ room_at c roomy) → HasRoomFor (map (ping_of now) (receiving_among v)) roomy
+      → ((c : ℕ) → list_any (λ (d : ConnNo). d.0 == c) (receiving_among v) ≡ true → 1 ≤ room_at c roomy)
+      → CanQueue (map (ping_of now) (receiving_among v)) roomy
   beat-room now roomy h enough c =
       ping-room now c (λ d. is_receiving d past) (opened past) (receiving_among v) (room_at c roomy)
       (distinct past v h.numbers) (receiving-all past v (worked past h.legal) h.numbers) (receiving-opened c past) (enough c)
@@ -70,7 +74,8 @@ module _ {past : List Step} {v : Numbers} {outs : OutboxesState} {k : CursorStat
       (λ c. says c past (Step.Beat now ∷ past) outs new (map (ping_of now) (receiving_among v)) (h.queues c) q
       (with-ping (is_receiving c past) (queued c past) (ping_line now c)
       ∙ ap (λ (ls : List Line). queued c past ++ ls)
-      (sym (pinged now c (λ d. is_receiving d past) (opened past) (receiving_among v) (distinct past v h.numbers) (receiving-all past v (worked past h.legal) h.numbers) (receiving-opened c past)))))
+      (sym (pinged now c (λ d. is_receiving d past) (opened past) (receiving_among v) (distinct past v h.numbers)
+      (receiving-all past v (worked past h.legal) h.numbers) (receiving-opened c past)))))
 
   -- ---- an open
 
@@ -86,7 +91,9 @@ module _ {past : List Step} {v : Numbers} {outs : OutboxesState} {k : CursorStat
         legal = legal;
         messages = h.messages;
         numbers = opens-as c.0 token user past v new h.numbers free now rising;
-        queues = λ d. says d past (Step.Open c.0 token user ∷ past) outs said (record { conn = c; out = out.Text (greeting user) } ∷ []) (h.queues d) q (greeted c.0 d (queued d past) (greeting user));
+        queues =
+            λ d. says d past (Step.Open c.0 token user ∷ past) outs said (record { conn = c; out = out.Text (greeting user) } ∷ []) (h.queues d) q
+            (greeted c.0 d (queued d past) (greeting user));
         listens = record { lower_is = h.listens.lower_is; turns = h.listens.turns; out = h.listens.out };
         held = held-open c.0 token user past holds legal h.held;
         wished = wished-open c.0 token user past ws taken legal h.wished;
@@ -94,9 +101,11 @@ module _ {past : List Step} {v : Numbers} {outs : OutboxesState} {k : CursorStat
 
 module _ {past : List Step} {v : Numbers} {outs : OutboxesState} {k : CursorState} {holds : HoldMap} {ws : List Wanted} {taken : ℕ} where
   -- the same, where the journal and the wants are told by equations
-  pub opens-to : (c : ConnNo) (token : List ℕ) (told user : Option (List ℕ)) (now : List Step) (new : Numbers) (roomy said : OutboxesState) (mid more : List Wanted) (left : ℕ) → Stands past v outs k holds ws taken
+  pub opens-to : (c : ConnNo) (token : List ℕ) (told user : Option (List ℕ)) (now : List Step) (new : Numbers)
+      (said : OutboxesState) (mid more : List Wanted) (left : ℕ) → Stands past v outs k holds ws taken
       → is_opened c.0 past ≡ false → ltb (live_count past) most_connections ≡ true → OpensAs c.0 user v new → Rising new
-      → Roomier outs roomy → Queues (record { conn = c; out = out.Text (greeting user) } ∷ []) roomy said
-      → now ≡ Step.Open c.0 token user ∷ past → told ≡ user → mid ≡ ws → more ≡ mid ++ own_wanted c.0 told → left ≡ taken → Stands now new said k holds more left
-  opens-to c token told user now new roomy said mid more left h free room opened rising r q grown u m wanted same =
-      rw (grown, wanted, u, m, same) (opens c token user new said (room-out roomy h r) free room opened rising q)
+      → Queues (record { conn = c; out = out.Text (greeting user) } ∷ []) outs said
+      → now ≡ Step.Open c.0 token user ∷ past → told ≡ user → mid ≡ ws → more ≡ mid ++ own_wanted c.0 told → left ≡ taken
+      → Stands now new said k holds more left
+  opens-to c token told user now new said mid more left h free room opened rising q grown u m wanted same =
+      rw (grown, wanted, u, m, same) (opens c token user new said h free room opened rising q)

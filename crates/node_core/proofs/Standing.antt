@@ -10,11 +10,10 @@ use Rattle.cable_model.specs.Possible.{can_drop, is_out, last_turn, can_take}
 use Rattle.cable_model.specs.Steps.{Step}
 use Rattle.cable_model.specs.Wants.{lower}
 use Rattle.conn_seat.specs.Seats.{Seated, Becomes, with_piece, with_taken, may_take_now}
-use Rattle.node_holds.specs.Held.{is_steady}
-use Rattle.node_outbox.specs.Outboxes.{OutboxesState, Roomier, queue_at, taken_at}
-use Rattle.node_seats.specs.declared.opened.Opened.TheVariants as kept
+use Rattle.node_turns.specs.Held.{is_steady}
+use Rattle.node_seats.specs.Outboxes.{OutboxesState, WidensAll, queue_at, taken_at}
 use Rattle.node_seats.specs.declared.turning.Wanted.{Wanted}
-use Rattle.node_seats.specs.Numbers.{Numbers, Moves, Lives, Stops, opened_at}
+use Rattle.node_seats.specs.Numbers.{Numbers, Opened, Moves, Lives, Stops, opened_at}
 use Rattle.node_seats.specs.AreSeats.{AreSeats}
 use Rattle.node_seats.proofs.Onward.{onward}
 use Rattle.node_seats.proofs.Counting.{none-yet}
@@ -22,12 +21,12 @@ use Rattle.node_seats.proofs.Entries.{texts, drops, rooms, takes}
 use Rattle.node_seats.proofs.Opening.{stops}
 use Rattle.poll_turn.specs.Turns.{CursorState}
 use Rattle.subscriber_map.specs.HoldMaps.{HoldMap}
-use Rattle.turn_wants.specs.Wished.{is_plain}
+use Rattle.node_turns.specs.Wished.{is_plain}
 use Rattle.node_core.specs.Arriving.{text_fault}
 use Rattle.node_core.specs.Journals.{JournalState}
 use Rattle.node_core.specs.Nodes.{Stands, IsQueued, AreQueued, HasTurnRoom, BringsMessages}
-use Rattle.node_holds.proofs.Staying.{held-boot, held-steady}
-use Rattle.turn_wants.proofs.Wishing.{wished-boot, wished-plain}
+use Rattle.node_turns.proofs.HoldsStaying.{held-boot, held-steady}
+use Rattle.node_turns.proofs.Wishing.{wished-boot, wished-plain}
 use Rattle.node_core.proofs.Queueing.{quiet, roomier}
 use Rattle.node_core.proofs.Telling.{worked, can-put}
 
@@ -70,7 +69,7 @@ module _ {past : List Step} {v : Numbers} {outs : OutboxesState} {k : CursorStat
       }
 
   -- room that was made
-  pub room-out : (new : OutboxesState) → Stands past v outs k holds ws taken → Roomier outs new → Stands past v new k holds ws taken
+  pub room-out : (new : OutboxesState) → Stands past v outs k holds ws taken → WidensAll outs new → Stands past v new k holds ws taken
   room-out new h r = queues-now new h (roomier past outs new h.queues r)
 
   pub room-in : (c : ℕ) (new : Numbers) → Stands past v outs k holds ws taken → Moves c (Lives Becomes) v new → Stands past new outs k holds ws taken
@@ -122,7 +121,7 @@ module _ {past : List Step} {v : Numbers} {outs : OutboxesState} {k : CursorStat
       (λ d. quiet d past (Step.Stop ∷ past) outs refl (h.queues d))
 
   pub takes-one : (c : ℕ) (new : Numbers) → Stands past v outs k holds ws taken → can_take c past ≡ true
-      → Moves c (Lives (λ s t. Becomes (with_taken s) t)) v new → ((s : Seated) → opened_at c v ≡ Some (kept.Live s) → may_take_now s ≡ true)
+      → Moves c (Lives (λ s t. Becomes (with_taken s) t)) v new → ((s : Seated) → opened_at c v ≡ Some (Opened.Live s) → may_take_now s ≡ true)
       → Stands (Step.Take c ∷ past) new outs k holds ws taken
   takes-one c new h may m is =
       onto (Step.Take c) new outs (record { steady = refl; plain = refl; lower_is = refl; turns = refl; out = refl; messages = λ b. b }) h may

@@ -17,14 +17,12 @@ use Rattle.cable_model.specs.Possible.{can_take, is_empty}
 use Rattle.cable_model.specs.Steps.{Step}
 use Rattle.conn_seat.specs.Seats.{Seated, Becomes, may_take_now, with_piece, with_taken}
 use Rattle.conn_seat.specs.Turns.{with_pieces}
-use Rattle.node_outbox.specs.Outboxes.{OutboxesState}
-use Rattle.node_seats.specs.declared.opened.Opened.{Opened}
-use Rattle.node_seats.specs.declared.opened.Opened.TheVariants as kept
+use Rattle.node_seats.specs.Outboxes.{OutboxesState}
 use Rattle.node_seats.specs.declared.turning.Delivery.{Delivery}
 use Rattle.node_seats.specs.declared.turning.Wanted.{Wanted}
 use Rattle.node_seats.specs.AreSeats.{AreSeats, IsOpened}
-use Rattle.node_seats.specs.Numbers.{Numbers, Moves, Lives, Prepares, Finished, Restarts, Stops, opened_at, seat_at, seat_in, may_take_in, may_take_at, receiving_among, is_receiving_in}
-use Rattle.node_seats.specs.Turned.{TurnsOne, Roomier, Delivers, Places, next_task_in, pieces_for}
+use Rattle.node_seats.specs.Numbers.{Numbers, Opened, Moves, Lives, Prepares, Finished, Restarts, Stops, opened_at, seat_at, seat_in, may_take_in, may_take_at, receiving_among, is_receiving_in}
+use Rattle.node_seats.specs.Turned.{TurnsOne, Roomier, Delivers, Places, errand_in, pieces_for}
 use Rattle.node_seats.proofs.Entries.{live}
 use Rattle.node_seats.proofs.Lookups.{at-is, found-there, found-elsewhere, new-there, new-elsewhere}
 use Rattle.node_seats.proofs.Onward.{entries}
@@ -36,26 +34,28 @@ use Rattle.node_core.specs.Nodes as nodes
 use Rattle.node_core.specs.Opening.{OpensAs}
 use Rattle.node_core.specs.Serving.{Refreshes, conns_of}
 use Rattle.node_core.proofs.Refreshing.{filter-among, has-first, has-one, looks-none}
-use Rattle.node_core.proofs.TakingJobs.{next-if, next-is, takes-first}
+use Rattle.node_core.proofs.TakingJobs.{errand-if, errand-is, takes-first}
 use Rattle.node_core.proofs.Telling.{worked}
 
 -- ---- what the journal says
 
-next-in : (o : Option Seated) → is_some (next_task_in o) ≡ may_take_in o
-next-in None = refl
-next-in (Some s) = next-if s
+told-in : (o : Option Seated) → is_some (errand_in o) ≡ may_take_in o
+told-in None = refl
+told-in (Some s) = errand-if s
 
 module _ {past : List Step} {v : Numbers} {outs : OutboxesState} {k : CursorState} {holds : HoldMap} {ws : List Wanted} {taken : ℕ} (h : Stands past v outs k holds ws taken) where
   -- a piece may be taken exactly where one can be
   pub may-is : (c : ℕ) → may_take_at c v ≡ can_take c past
-  may-is c = sym (next-in (seat_at c v)) ∙ next-is c past v (worked past h.legal) h.numbers
+  may-is c = sym (told-in (seat_at c v)) ∙ errand-is c past v (worked past h.legal) h.numbers
 
   pub ready-is : (ready : List ConnNo) → AreReady v ready → (c : ConnNo) → has_number c ready ≡ can_take c.0 past
   ready-is ready are c = are c ∙ may-is c.0
 
   -- the first of the ready ones, if one is ready
-  pub first-ready : (ready : List ConnNo) (o : Option ConnNo) → AreReady v ready → o ≡ slice_get ready 0 → MatchOption o ((c : ℕ) → can_take c past ≡ false) (λ (c : ConnNo). can_take c.0 past ≡ true)
-  first-ready ready o are is = subst (λ (x : Option ConnNo). MatchOption x ((c : ℕ) → can_take c past ≡ false) (λ (c : ConnNo). can_take c.0 past ≡ true)) (sym is) (by-list ready are)
+  pub first-ready : (ready : List ConnNo) (o : Option ConnNo) → AreReady v ready → o ≡ slice_get ready 0
+      → MatchOption o ((c : ℕ) → can_take c past ≡ false) (λ (c : ConnNo). can_take c.0 past ≡ true)
+  first-ready ready o are is =
+      subst (λ (x : Option ConnNo). MatchOption x ((c : ℕ) → can_take c past ≡ false) (λ (c : ConnNo). can_take c.0 past ≡ true)) (sym is) (by-list ready are)
     where
       by-list : (ns : List ConnNo) → AreReady v ns → MatchOption (slice_get ns 0) ((c : ℕ) → can_take c past ≡ false) (λ (c : ConnNo). can_take c.0 past ≡ true)
       by-list [] are = λ c. sym (ready-is [] are (record { 0 = c }))
@@ -86,7 +86,8 @@ module _ (v new : Numbers) (looked was mid now : List ConnNo) (alike : Alike loo
       by-test true e = refl
       by-test false e = sym (alike c e ∙ sym (are c) ∙ there)
 
-  pub in-order : (past : List Step) → ((c : ℕ) → may_take_at c new ≡ can_take c past) → (more : List ConnNo) × (now ≡ filter (λ (c : ConnNo). can_take c.0 past) was ++ more)
+  pub in-order : (past : List Step) → ((c : ℕ) → may_take_at c new ≡ can_take c past)
+      → (more : List ConnNo) × (now ≡ filter (λ (c : ConnNo). can_take c.0 past) was ++ more)
   in-order past may = (
     look-now.order.0,
     look-now.order.1
@@ -101,10 +102,15 @@ still-so v new was now alike are same = still-ready v new [] was was now (λ c e
 
 module _ {v : Numbers} {outs : OutboxesState} {k : CursorState} {holds : HoldMap} {ws : List Wanted} {taken : ℕ} (old new : NodeState) where
   -- an entry was made, and these were looked at
-  pub goes-on : (before : Numbers) (looked mid : List ConnNo) → Stands (nodes.past new) v outs k holds ws taken → TakesNone old new → ForgetsNone old new → Alike looked before v → AreReady before old.ready
+  pub goes-on : (before : Numbers) (looked mid : List ConnNo) → Stands (nodes.past new) v outs k holds ws taken → TakesNone old new → ForgetsNone old new
+      → Alike looked before v → AreReady before old.ready
       → mid ≡ old.ready → Refreshes v looked mid new.ready → GoesOn old new
   goes-on before looked mid h none unforgotten alike are same look =
-      record { taken = none; forgotten = unforgotten; served = in-order before v looked old.ready mid new.ready alike are same look (nodes.past new) (may-is h) }
+      record {
+        taken = none;
+        forgotten = unforgotten;
+        served = in-order before v looked old.ready mid new.ready alike are same look (nodes.past new) (may-is h);
+      }
 
   -- nothing happened
   pub goes-nowhere : Stands (nodes.past old) v outs k holds ws taken → AreReady v old.ready → ReadsSame old new → GoesOn old new
@@ -132,34 +138,39 @@ pub becomes-may : (s t : Seated) → Becomes s t → may_take_now t ≡ may_take
 becomes-may s t b = ap may_take_now b.now
 
 -- calls that leave what a take sees change it of none
-pub alike-lives : (By : Seated → Seated → Type 0) (n : ℕ) (v new : Numbers) → ((s t : Seated) → By s t → may_take_now t ≡ may_take_now s) → Moves n (Lives By) v new → (c : ℕ) → may_take_at c new ≡ may_take_at c v
+pub alike-lives : (By : Seated → Seated → Type 0) (n : ℕ) (v new : Numbers) → ((s t : Seated) → By s t → may_take_now t ≡ may_take_now s)
+    → Moves n (Lives By) v new → (c : ℕ) → may_take_at c new ≡ may_take_at c v
 alike-lives By n v new same m c =
     let l = live By n v new m in
     elim (cases_eq n c) [
       | inl e ↦ subst (λ (x : ℕ). may_take_at x new ≡ may_take_at x v) e
-          (ap may_in (ap (opened_at n) l.now ∙ found-there n (kept.Live l.new_seat) (kept.Live l.old_seat) v l.found) ∙ same l.old_seat l.new_seat l.moved_by ∙ sym (ap may_in l.found))
-      | inr apart ↦ ap may_in (ap (opened_at c) l.now ∙ found-elsewhere n c (kept.Live l.new_seat) v apart)
+          (ap may_in (ap (opened_at n) l.now ∙ found-there n (Opened.Live l.new_seat) (Opened.Live l.old_seat) v l.found)
+          ∙ same l.old_seat l.new_seat l.moved_by ∙ sym (ap may_in l.found))
+      | inr apart ↦ ap may_in (ap (opened_at c) l.now ∙ found-elsewhere n c (Opened.Live l.new_seat) v apart)
     ]
 
 pub alike-room : (n : ℕ) (v new : Numbers) → Moves n (Lives Becomes) v new → (c : ℕ) → may_take_at c new ≡ may_take_at c v
 alike-room n v new m c = alike-lives Becomes n v new becomes-may m c
 
 -- room for a plan is made, and then it is finished
-pub alike-finished : (conn : ConnNo) (change : Change) (v mid new : Numbers) → Moves conn.0 (Lives (Prepares change)) v mid → Moves conn.0 (Finished change) mid new → Alike (conn ∷ []) v new
-alike-finished conn change v mid new m n = λ c e. alike-moved conn (Finished change) mid new n c e ∙ alike-lives (Prepares change) conn.0 v mid (λ s t p. ap may_take_now p.now) m c.0
+pub alike-finished : (conn : ConnNo) (change : Change) (v mid new : Numbers) → Moves conn.0 (Lives (Prepares change)) v mid
+    → Moves conn.0 (Finished change) mid new → Alike (conn ∷ []) v new
+alike-finished conn change v mid new m n =
+    λ c e. alike-moved conn (Finished change) mid new n c e ∙ alike-lives (Prepares change) conn.0 v mid (λ s t p. ap may_take_now p.now) m c.0
 
 -- of one that opens none may be taken
-pub alike-opened : (c : ℕ) (user : Option (List ℕ)) (v new : Numbers) → opened_at c v ≡ None → OpensAs c user v new → (d : ℕ) → may_take_at d new ≡ may_take_at d v
+pub alike-opened : (c : ℕ) (user : Option (List ℕ)) (v new : Numbers) → opened_at c v ≡ None → OpensAs c user v new → (d : ℕ)
+    → may_take_at d new ≡ may_take_at d v
 alike-opened c None v new free o d =
     elim (cases_eq c d) [
-      | inl e ↦ subst (λ (x : ℕ). may_take_at x new ≡ may_take_at x v) e (ap may_in (ap (opened_at c) o ∙ new-there c kept.Over v) ∙ sym (ap may_in free))
-      | inr apart ↦ ap may_in (ap (opened_at d) o ∙ new-elsewhere c d kept.Over v apart)
+      | inl e ↦ subst (λ (x : ℕ). may_take_at x new ≡ may_take_at x v) e (ap may_in (ap (opened_at c) o ∙ new-there c Opened.Over v) ∙ sym (ap may_in free))
+      | inr apart ↦ ap may_in (ap (opened_at d) o ∙ new-elsewhere c d Opened.Over v apart)
     ]
 alike-opened c (Some user) v new free o d =
     elim (cases_eq c d) [
       | inl e ↦ subst (λ (x : ℕ). may_take_at x new ≡ may_take_at x v) e
-          (ap may_in (ap (opened_at c) o.2 ∙ new-there c (kept.Live o.0) v) ∙ ap may_take_now o.1.now ∙ sym (ap may_in free))
-      | inr apart ↦ ap may_in (ap (opened_at d) o.2 ∙ new-elsewhere c d (kept.Live o.0) v apart)
+          (ap may_in (ap (opened_at c) o.2 ∙ new-there c (Opened.Live o.0) v) ∙ ap may_take_now o.1.now ∙ sym (ap may_in free))
+      | inr apart ↦ ap may_in (ap (opened_at d) o.2 ∙ new-elsewhere c d (Opened.Live o.0) v apart)
     ]
 
 -- behind a take a job is out
@@ -167,15 +178,15 @@ pub taken-out : (n : ℕ) (v new : Numbers) → Moves n (Lives (λ s t. Becomes 
 taken-out n v new m may =
     let l = live (λ s t. Becomes (with_taken s) t) n v new m in
     let first = takes-first l.old_seat (sym (ap may_in l.found) ∙ may) in
-    ap may_in (ap (opened_at n) l.now ∙ found-there n (kept.Live l.new_seat) (kept.Live l.old_seat) v l.found)
+    ap may_in (ap (opened_at n) l.now ∙ found-there n (Opened.Live l.new_seat) (Opened.Live l.old_seat) v l.found)
     ∙ becomes-may (with_taken l.old_seat) l.new_seat l.moved_by
     ∙ ap (λ (o : Option Placed). not (is_some o) && (not (with_taken l.old_seat).over && not (is_empty (with_taken l.old_seat).waiting))) first.1.job
 
 -- ---- a stop
 
 stopped-one : (c : ℕ) (past : List Step) (k o : Opened) → is_receiving_in k ≡ false → IsOpened c past k → Restarts k o → may_in (Some o) ≡ may_in (Some k)
-stopped-one c past kept.Over o shut h r = ap (λ (x : Opened). may_in (Some x)) r
-stopped-one c past (kept.Live s) o shut h r =
+stopped-one c past Opened.Over o shut h r = ap (λ (x : Opened). may_in (Some x)) r
+stopped-one c past (Opened.Live s) o shut h r =
     let closing : s.closing ≡ true = closes s.over s.closing h.1 shut in
     ap (λ (x : Opened). may_in (Some x)) r.2 ∙ becomes-may (with_piece piece.Restart s) r.0 r.1 ∙ ap may_take_now (passed s.closing closing)
   where
@@ -191,12 +202,14 @@ stopped-one c past (kept.Live s) o shut h r =
 pub alike-stopped : (past : List Step) (v new : Numbers) → AreSeats past v → Stops v new → Alike (receiving_among v) v new
 alike-stopped past v new a stopped = λ c e. by-list c v new (entries past v a) stopped e
   where
-    by-list : (c : ConnNo) (v new : Numbers) → AllByRecursion (λ (e : ℕ × Opened). IsOpened e.0 past e.1) v → Stops v new → has_number c (receiving_among v) ≡ false → may_take_at c.0 new ≡ may_take_at c.0 v
+    by-list : (c : ConnNo) (v new : Numbers) → AllByRecursion (λ (e : ℕ × Opened). IsOpened e.0 past e.1) v → Stops v new
+        → has_number c (receiving_among v) ≡ false → may_take_at c.0 new ≡ may_take_at c.0 v
     by-list c [] new all s e = ap (may_take_at c.0) s
     by-list c (x ∷ xs) new all s e =
         ap (may_take_at c.0) s.4 ∙ by-test (is_at (nat_cmp c.0) x.0) refl (is_receiving_in x.1) refl e (by-list c xs s.1 all.1 s.3)
       where
-        by-test : (b : Bool) → is_at (nat_cmp c.0) x.0 ≡ b → (r : Bool) → is_receiving_in x.1 ≡ r → has_number c (cond r (record { 0 = x.0 } ∷ receiving_among xs) (receiving_among xs)) ≡ false
+        by-test : (b : Bool) → is_at (nat_cmp c.0) x.0 ≡ b → (r : Bool) → is_receiving_in x.1 ≡ r
+            → has_number c (cond r (record { 0 = x.0 } ∷ receiving_among xs) (receiving_among xs)) ≡ false
             → (has_number c (receiving_among xs) ≡ false → may_take_at c.0 s.1 ≡ may_take_at c.0 xs)
             → may_in (cond (is_at (nat_cmp c.0) x.0) (Some s.0) (opened_at c.0 s.1)) ≡ may_in (cond (is_at (nat_cmp c.0) x.0) (Some x.1) (opened_at c.0 xs))
         by-test true at true r e ih = let f : true ≡ false = sym (ap (λ b. b || has_number c (receiving_among xs)) (sym (at-is c.0 x.0) ∙ at)) ∙ e in absurd cc
@@ -206,16 +219,18 @@ alike-stopped past v new a stopped = λ c e. by-list c v new (entries past v a) 
 
 -- ---- a turn
 
-turned-one : (By : Seated → Seated → Type 0) (o p : Option Opened) → ((s t : Seated) → By s t → may_take_now t ≡ may_take_now s) → TurnsOne By o p → may_in p ≡ may_in o
+turned-one : (By : Seated → Seated → Type 0) (o p : Option Opened) → ((s t : Seated) → By s t → may_take_now t ≡ may_take_now s) → TurnsOne By o p
+    → may_in p ≡ may_in o
 turned-one By None p same t = ap may_in t
-turned-one By (Some kept.Over) p same t = ap may_in t
-turned-one By (Some (kept.Live s)) p same t = ap may_in t.2 ∙ same s t.0 t.1
+turned-one By (Some Opened.Over) p same t = ap may_in t
+turned-one By (Some (Opened.Live s)) p same t = ap may_in t.2 ∙ same s t.0 t.1
 
 pieces-none : (c : ConnNo) (ds : List Delivery) → has_number c (conns_of ds) ≡ false → pieces_for c.0 ds ≡ []
 pieces-none c [] e = refl
 pieces-none c (d ∷ ds) e = by-test (d.conn.0 == c.0) refl e (pieces-none c ds)
   where
-    by-test : (b : Bool) → (d.conn.0 == c.0) ≡ b → (b || has_number c (conns_of ds)) ≡ false → (has_number c (conns_of ds) ≡ false → pieces_for c.0 ds ≡ []) → pieces_for c.0 (d ∷ ds) ≡ []
+    by-test : (b : Bool) → (d.conn.0 == c.0) ≡ b → (b || has_number c (conns_of ds)) ≡ false → (has_number c (conns_of ds) ≡ false → pieces_for c.0 ds ≡ [])
+        → pieces_for c.0 (d ∷ ds) ≡ []
     by-test true is e ih = absurd cc
     by-test false is e ih = rw is (ih e)
 
@@ -223,7 +238,8 @@ pub alike-roomier : (v new : Numbers) → Roomier v new → (c : ℕ) → may_ta
 alike-roomier v new r c = turned-one (λ s t. Becomes s t) (opened_at c v) (opened_at c new) becomes-may (r.each c)
 
 -- a turn changes it of those alone that it brings pieces for
-pub alike-turned : (mark : RowId) (ws : List Wanted) (ds : List Delivery) (v v1 v2 v3 : Numbers) → Roomier v v1 → Places mark ws v1 v2 → Delivers ds v2 v3 → Alike (conns_of ds) v v3
+pub alike-turned : (mark : RowId) (ws : List Wanted) (ds : List Delivery) (v v1 v2 v3 : Numbers) → Roomier v v1 → Places mark ws v1 v2 → Delivers ds v2 v3
+    → Alike (conns_of ds) v v3
 alike-turned mark ws ds v v1 v2 v3 room places puts = λ c e.
     turned-one (λ s t. Becomes (with_pieces (pieces_for c.0 ds) s) t) (opened_at c.0 v2) (opened_at c.0 v3)
     (λ s t b. becomes-may s t (subst (λ (ps : List Piece). Becomes (with_pieces ps s) t) (pieces-none c ds e) b)) (puts.each c.0)

@@ -4,8 +4,8 @@ use Rattle.std.specs.Prelude.{slice_get, MatchOption}
 use Rattle.std.proofs.lemmas.Bool.Decides.{nat_tests}
 use Rattle.cable_model.specs.Steps.{Step}
 use Rattle.cable_model.specs.Transcript.{queued}
-use Rattle.node_outbox.specs.declared.outs.Out.{Out}
-use Rattle.node_outbox.specs.Outboxes.{OutboxesState, TakesOut, queue_at, taken_at}
+use Rattle.conn_seat.specs.declared.outs.Out.{Out}
+use Rattle.node_seats.specs.Outboxes.{OutboxesState, TakesOut, queue_at, taken_at}
 use Rattle.node_core.specs.Nodes.{IsQueued, AreQueued, line_on}
 
 -- what stands behind the first `t` of a list
@@ -44,7 +44,10 @@ module _ (c : ℕ) (past : List Step) (v new : OutboxesState) (h : AreQueued pas
           let f = t.first x refl in
           let n = taken-first x f.0 in
           subst (λ (d : ℕ). IsQueued d past new) same
-          (record { within = rw f.1 n.within; left = n.rest ∙ ap (λ (k : ℕ). drop k (queued c past)) (let m : suc (taken_at c v) ≡ taken_at c new = omega (arith, f.1) in m) })
+          (record {
+            within = rw f.1 n.within;
+            left = n.rest ∙ ap (λ (k : ℕ). drop k (queued c past)) (let m : suc (taken_at c v) ≡ taken_at c new = omega (arith, f.1) in m);
+          })
       by-test d false e =
           record {
             within = subst (λ (n : ℕ). n ≤ length (queued d past)) (sym (t.taken d e)) (h d).within;

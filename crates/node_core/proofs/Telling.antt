@@ -9,9 +9,7 @@ use Rattle.cable_model.proofs.JobsStay.{unopened-user}
 use Rattle.cable_model.proofs.Stored.{stored-works}
 use Rattle.conn_seat.specs.Seats.{Seated}
 use Rattle.conn_seat.proofs.Answering.{answers}
-use Rattle.node_seats.specs.declared.opened.Opened.{Opened}
-use Rattle.node_seats.specs.declared.opened.Opened.TheVariants as kept
-use Rattle.node_seats.specs.Numbers.{Numbers, opened_at, seat_at, seat_in}
+use Rattle.node_seats.specs.Numbers.{Numbers, Opened, opened_at, seat_at, seat_in}
 use Rattle.node_seats.specs.AreSeats.{AreSeats, AreWorked}
 use Rattle.node_seats.proofs.Onward.{used-is}
 use Rattle.node_seats.proofs.Counting.{live-is, receiving-is}
@@ -39,28 +37,25 @@ receiving-at past v c w a = by-kept (opened_at c v) refl (used-is past v c a)
   where
     by-kept : (o : Option Opened) → opened_at c v ≡ o → is_some o ≡ is_opened c past → receiving_at (seat_in o) ≡ is_receiving c past
     by-kept None at used = let f = receiving-unopened c past (sym used) in rw f refl
-    by-kept (Some (kept.Live s)) at used = receiving-is c past (kept.Live s) w (a.each c (kept.Live s) at)
-    by-kept (Some kept.Over) at used = receiving-is c past kept.Over w (a.each c kept.Over at)
-
-pub receiving-seat : (o : Option Seated) → receiving_at o ≡ true → is_some o ≡ true
-receiving-seat None e = absurd cc
-receiving-seat (Some s) e = refl
+    by-kept (Some (Opened.Live s)) at used = receiving-is c past (Opened.Live s) w (a.each c (Opened.Live s) at)
+    by-kept (Some Opened.Over) at used = receiving-is c past Opened.Over w (a.each c Opened.Over at)
 
 -- the cause for which a text isn't put
-pub fault-at : (past : List Step) (v : Numbers) (c : ℕ) (text : List ℕ) → AreWorked past → AreSeats past v → fault_at (seat_at c v) text ≡ text_fault c text past
+pub fault-at : (past : List Step) (v : Numbers) (c : ℕ) (text : List ℕ) → AreWorked past → AreSeats past v
+    → fault_at (seat_at c v) text ≡ text_fault c text past
 fault-at past v c text w a = by-kept (opened_at c v) refl (used-is past v c a)
   where
     by-kept : (o : Option Opened) → opened_at c v ≡ o → is_some o ≡ is_opened c past → fault_at (seat_in o) text ≡ text_fault c text past
     by-kept None at used = let f = receiving-unopened c past (sym used) in rw f refl
-    by-kept (Some (kept.Live s)) at used =
-        let h = a.each c (kept.Live s) at in
+    by-kept (Some (Opened.Live s)) at used =
+        let h = a.each c (Opened.Live s) at in
         let l = live-is c past s h.0 h.1 in
         let pl = w c s.user h.0.user in
         rw l
         (ap (λ b. cond b (Some fault.Shut) (cond (is_too_long text) (Some fault.TooLong) (cond (is_full s) (Some fault.Busy) None))) h.0.shows.closing
         ∙ ap (λ b. cond (closing (seat c past).pieces) (Some fault.Shut) (cond (is_too_long text) (Some fault.TooLong) (cond b (Some fault.Busy) None)))
         (ap (leb 256) (answers pl.0 c past s pl.1 h.0).commands))
-    by-kept (Some kept.Over) at used = let f = (a.each c kept.Over at).live in rw f refl
+    by-kept (Some Opened.Over) at used = let f = (a.each c Opened.Over at).live in rw f refl
 
 -- where there is none the text can be put
 pub can-put : (c : ℕ) (text : List ℕ) (past : List Step) → text_fault c text past ≡ None → can_put_command c text past ≡ true

@@ -5,7 +5,7 @@ use Rattle.cable_base.specs.declared.numbers.ConnNo.{ConnNo}
 use Rattle.cable_model.specs.Possible.{can_drop, can_take, is_out, is_over, last_turn}
 use Rattle.cable_model.specs.Steps.{Step}
 use Rattle.cable_model.specs.Transcript.{queued}
-use Rattle.node_outbox.specs.declared.outs.Out.{Out}
+use Rattle.conn_seat.specs.declared.outs.Out.{Out}
 use Rattle.poll_turn.specs.Notes.{note_in}
 use Rattle.poll_turn.specs.Turns.{CaughtState, TurnState}
 use Rattle.node_core.specs.Arriving.{RefusesText, text_fault}

@@ -1,24 +1,16 @@
 -- What the finish of a plan queues and whether a job is the one that is out, as what is kept of the number tells it.
 use Rattle.std.specs.Prelude.{◌≡◌, ℕ, List, ◌++◌, map, Option, None, Some, option_map}
-use Rattle.cable_base.specs.declared.numbers.ConnNo.{ConnNo}
-use Rattle.cable_model.specs.declared.notes.Note.{Note}
 use Rattle.cable_model.specs.declared.plans.Plan.{Plan}
 use Rattle.cable_model.specs.declared.plans.Task.{Task}
 use Rattle.cable_model.specs.Pieces.{Placed}
 use Rattle.conn_seat.specs.Seats.{Seated}
 use Rattle.conn_seat.specs.Tasks.{task_out_of}
-use Rattle.node_outbox.specs.declared.outs.Out.TheVariants as out
-use Rattle.node_outbox.specs.declared.outs.Queued.{Queued}
-
-abbrev pub text_on : ConnNo → (text : List ℕ) → Queued
-text_on conn text = record { conn = conn; out = out.Text text }
-
-abbrev pub note_on : ConnNo → Note → Queued
-note_on conn n = record { conn = conn; out = out.Note n }
+use Rattle.conn_seat.specs.declared.outs.Out.{Out}
+use Rattle.conn_seat.specs.declared.outs.Out.TheVariants as out
 
 -- the texts of a plan and then its notes
-abbrev pub outs_of : ConnNo → Plan → List Queued
-outs_of conn plan = map (text_on conn) plan.texts ++ map (note_on conn) plan.notes
+abbrev pub outs_of : Plan → List Out
+outs_of plan = map out.Text plan.texts ++ map out.Note plan.notes
 
 -- the job that is out stands at this place and needs this
 pub record IsOutAs (place : ℕ) (t : Task) (s : Seated) : Type 0 where

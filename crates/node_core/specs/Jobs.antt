@@ -12,7 +12,6 @@ use Rattle.cable_model.specs.Steps.{Step}
 use Rattle.cable_model.specs.Wants.{user_of}
 use Rattle.cable_model.specs.Window.{job}
 use Rattle.conn_core.specs.Payloads.{AreCommittable}
-use Rattle.conn_seat.specs.Seats.{Seated, place_of}
 use Rattle.node_core.specs.Nodes.{NodeState, past}
 
 pub record JobState : Type 0 where
@@ -35,13 +34,6 @@ pub record WorkState : Type 0 where
 -- what the job that is out on c needs from its connection
 abbrev pub task_out : ℕ → List Step → Option Task
 task_out c past = cond (has_job (seat c past)) (option_map (task_of (seat c past).conn) (job (seat c past))) None
-
--- ---- as what is kept of a number tells it
-
--- the place of the piece that is out, 0 where none is
-abbrev pub place_in : Option Seated → ℕ
-place_in None = 0
-place_in (Some s) = place_of s.job
 
 -- ---- jobs and works
 

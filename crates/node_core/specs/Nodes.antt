@@ -11,18 +11,18 @@ use Rattle.cable_model.specs.Possible.{can_take, is_booted, is_out, last_turn}
 use Rattle.cable_model.specs.Steps.{Step}
 use Rattle.cable_model.specs.Transcript.{conn_line, conn_note, queued}
 use Rattle.cable_model.specs.Wants.{lower}
-use Rattle.node_outbox.specs.declared.outs.Out.{Out}
-use Rattle.node_outbox.specs.declared.outs.Out.TheVariants as out
-use Rattle.node_outbox.specs.declared.outs.Queued.{Queued}
-use Rattle.node_outbox.specs.Outboxes.{OutboxesState, forgotten_at, queue_at, taken_at}
-use Rattle.node_holds.specs.Held.{AreHeld}
+use Rattle.conn_seat.specs.declared.outs.Out.{Out}
+use Rattle.conn_seat.specs.declared.outs.Out.TheVariants as out
+use Rattle.node_seats.specs.declared.queues.Queued.{Queued}
+use Rattle.node_seats.specs.Outboxes.{OutboxesState, forgotten_at, queue_at, taken_at}
+use Rattle.node_turns.specs.Held.{AreHeld}
 use Rattle.node_seats.specs.declared.turning.Wanted.{Wanted}
 use Rattle.node_seats.specs.Numbers.{Numbers, may_take_at}
 use Rattle.node_seats.specs.AreSeats.{AreSeats}
 use Rattle.poll_turn.specs.Turns.{CursorState, AreMessages}
 use Rattle.run_queue.specs.ReadyLists.{AreOnce, has_number}
 use Rattle.subscriber_map.specs.HoldMaps.{HoldMap}
-use Rattle.turn_wants.specs.Wished.{AreWished}
+use Rattle.node_turns.specs.Wished.{AreWished}
 use Rattle.node_core.specs.Journals.{JournalState}
 
 pub record NodeState : Type 0 where

@@ -4,8 +4,7 @@ use Rattle.cable_model.specs.Limits.{most_connections}
 use Rattle.cable_model.specs.Possible.{is_opened, live_count}
 use Rattle.cable_model.specs.Steps.{Step}
 use Rattle.conn_seat.specs.Seats.{Seated, Becomes, vacant}
-use Rattle.node_seats.specs.declared.opened.Opened.TheVariants as kept
-use Rattle.node_seats.specs.Numbers.{Numbers, with_new}
+use Rattle.node_seats.specs.Numbers.{Numbers, Opened, with_new}
 use Rattle.node_core.specs.declared.opening.OpenFault.{OpenFault}
 use Rattle.node_core.specs.declared.opening.OpenFault.TheVariants as fault
 
@@ -20,5 +19,5 @@ RefusesOpen None r = IfErr r (λ e. e ≡ fault.OutOfMemory)
 
 -- what an Open keeps of its number
 abbrev pub OpensAs : ℕ → Option (List ℕ) → Numbers → Numbers → Type 0
-OpensAs c None v new = new ≡ with_new c kept.Over v
-OpensAs c (Some user) v new = (s : Seated) × Becomes (vacant user) s × (new ≡ with_new c (kept.Live s) v)
+OpensAs c None v new = new ≡ with_new c Opened.Over v
+OpensAs c (Some user) v new = (s : Seated) × Becomes (vacant user) s × (new ≡ with_new c (Opened.Live s) v)

@@ -9,17 +9,11 @@ ghost use Rattle.node_core.specs.Arriving.{RefusesText, fault_at, receiving_at, 
 
 use crate::nodes::Node;
 use crate::serving::{refresh, refresh_all};
-use cable_base::{ConnNo, OutOfMemory, Text};
+use cable_base::{ConnNo, MOST_TEXT, MOST_WAITING, OutOfMemory, Text};
 use cable_json::{CommandFault, read_command};
 use cable_model::{Beside, Entry, Piece};
 use node_seats::Seats;
 use std::alloc::Global;
-
-/// The most bytes of a client's text.
-const MOST_TEXT: usize = 65_536;
-
-/// The most commands that wait on a connection.
-const MOST_WAITING: u64 = 256;
 
 /// Why a client's text isn't taken. The first cause that holds is answered.
 #[derive(Clone, Copy, Debug, PartialEq, Eq)]
@@ -28,9 +22,9 @@ pub enum ArriveFault {
     Unknown,
     /// The connection is closing.
     Shut,
-    /// The text has over 65,536 bytes.
+    /// The text has over `MOST_TEXT` bytes.
     TooLong,
-    /// 256 commands of the connection wait.
+    /// `MOST_WAITING` commands of the connection wait.
     Busy,
     OutOfMemory,
 }

@@ -8,7 +8,8 @@ use crate::nodes::Node;
 use cable_base::{ConnNo, Millis, OutOfMemory};
 use cable_json::ping;
 use cable_model::{Beside, Entry};
-use node_outbox::{Out, Queued};
+use conn_seat::Out;
+use node_seats::Queued;
 use std::alloc::Global;
 
 /// A ping for each of these, at this moment.
@@ -43,9 +44,9 @@ impl Node {
     {
         let conns = self.seats.receiving(self.alloc)?;
         let queued = pings(self.alloc, &conns, now)?;
-        self.outboxes.reserve_each(&conns)?;
+        self.seats.reserve_each(&conns)?;
         self.journal.reserve()?;
-        self.outboxes.put_all(queued);
+        self.seats.queue_all(queued);
         self.journal.enter(Entry::Beat { now }, Beside::Nothing);
         Ok(())
     }

@@ -1,7 +1,7 @@
 ghost use Rattle.std.specs.Prelude.{ℕ, Bool, List, Option, Result};
 ghost use Rattle.cable_base.specs.declared.faults.OutOfMemory.{OutOfMemory};
 ghost use Rattle.cable_base.specs.declared.numbers.ConnNo.{ConnNo};
-ghost use Rattle.node_outbox.specs.declared.outs.Out.{Out};
+ghost use Rattle.conn_seat.specs.declared.outs.Out.{Out};
 ghost use Rattle.poll_turn.specs.Turns.{CaughtState, TurnState};
 ghost use Rattle.node_core.specs.Jobs.{JobState, WorkState};
 ghost use Rattle.node_core.specs.declared.arriving.ArriveFault.{ArriveFault};
@@ -14,7 +14,7 @@ use crate::opening::OpenFault;
 use crate::working::Work;
 use cable_base::{ConnNo, OutOfMemory, Steps};
 use channel_book::Callbacks;
-use node_outbox::Out;
+use conn_seat::Out;
 use poll_turn::{Caught, Turn};
 use std::sync::ledger::Ledger;
 
@@ -46,7 +46,7 @@ pub trait Desk {
         token: &str,
         callbacks: &C,
     ) -> Result<(), OpenFault>
-        ensures opens { opens self.old conn token.now (C.user_of callbacks.now token.now) result self.new };
+        ensures opens { opens self.old conn token.now ((C.answers callbacks.now).identify token.now) result self.new };
 
     /// Puts a client's text on its connection.
     fn arrive(&mut self, conn: ConnNo, text: &str) -> Result<(), ArriveFault>

@@ -1,9 +1,10 @@
-ghost use Rattle.std.specs.Prelude.{◌≡◌, ◌≤◌, ◌∷◌, ◌++◌, ℕ, true, map, is_some, OnOk, OnErr, IfOk, IfErr, ◌↔◌};
+ghost use Rattle.std.specs.Prelude.{◌≡◌, ◌≤◌, ◌∷◌, ◌++◌, ℕ, true, map, is_some, length, OnOk, OnErr, IfOk, IfErr, ◌↔◌};
 ghost use Rattle.cable_model.specs.Steps.{Step};
 ghost use Rattle.cable_model.specs.Wants.{makes};
-ghost use Rattle.node_outbox.specs.Outboxes.{HasRoomFor, Roomier};
+ghost use Rattle.conn_seat.specs.declared.outs.Out.TheVariants as out;
+ghost use Rattle.node_seats.specs.Outboxes.{WidensAll, room_at};
 ghost use Rattle.node_seats.specs.Numbers.{Lives, Moves, Prepares, seat_at};
-ghost use Rattle.node_core.specs.Finishing.{IsOutIn, note_on, outs_of, text_on};
+ghost use Rattle.node_core.specs.Finishing.{IsOutIn, outs_of};
 ghost use Rattle.node_core.specs.Jobs.{Fits};
 ghost use Rattle.node_core.specs.Nodes.{GoesOn, past, ReadsSame};
 
@@ -13,11 +14,10 @@ use crate::serving::refresh;
 use crate::working::Work;
 use cable_base::{ConnNo, Listed, OutOfMemory, SubNo, Text};
 use cable_model::{Beside, Change, Entry, Note, Plan, Task};
-use node_holds::release;
-use node_outbox::{Out, Outboxes, Queued};
+use conn_seat::Out;
 use node_seats::Seats;
+use node_turns::{Wants, release};
 use std::alloc::Global;
-use turn_wants::Wants;
 
 /// Whether the job that is out on the connection stands at this place and needs this.
 fn is_out(seats: &Seats, conn: ConnNo, place: u64, task: &Task) -> bool
@@ -29,40 +29,34 @@ fn is_out(seats: &Seats, conn: ConnNo, place: u64, task: &Task) -> bool
     }
 }
 
-/// The texts, to be queued on the connection.
-fn texts_on(alloc: Global, conn: ConnNo, texts: &[Text]) -> Result<Vec<Queued>, OutOfMemory>
-    ensures { IfOk result (λ qs. qs.items ≡ map (text_on conn) texts.now) }
+/// Adds the texts.
+fn add_texts(outs: &mut Vec<Out>, alloc: Global, texts: &[Text]) -> Result<(), OutOfMemory>
+    ensures { OnOk result (outs.new.items ≡ outs.old.items ++ map out.Text texts.now) }
 {
-    let mut queued = Vec::new(alloc);
     for text in texts {
-        queued.push(Queued {
-            conn,
-            out: Out::Text(text.copy(alloc)?),
-        })?;
-    }
-    Ok(queued)
-}
-
-/// Adds the notes, to be queued on the connection.
-fn add_notes(queued: &mut Vec<Queued>, conn: ConnNo, notes: &[Note]) -> Result<(), OutOfMemory>
-    ensures { OnOk result (queued.new.items ≡ queued.old.items ++ map (note_on conn) notes.now) }
-{
-    for note in notes {
-        queued.push(Queued {
-            conn,
-            out: Out::Note(*note),
-        })?;
+        outs.push(Out::Text(text.copy(alloc)?))?;
     }
     Ok(())
 }
 
-/// The texts of a plan and then its notes, to be queued on the connection.
-fn outs_of(alloc: Global, conn: ConnNo, plan: &Plan) -> Result<Vec<Queued>, OutOfMemory>
-    ensures { IfOk result (λ qs. qs.items ≡ outs_of conn plan.now) }
+/// Adds the notes.
+fn add_notes(outs: &mut Vec<Out>, notes: &[Note]) -> Result<(), OutOfMemory>
+    ensures { OnOk result (outs.new.items ≡ outs.old.items ++ map out.Note notes.now) }
 {
-    let mut queued = texts_on(alloc, conn, plan.texts.as_slice())?;
-    add_notes(&mut queued, conn, plan.notes.as_slice())?;
-    Ok(queued)
+    for note in notes {
+        outs.push(Out::Note(*note))?;
+    }
+    Ok(())
+}
+
+/// What a plan says: its texts and then its notes.
+fn outs_of(alloc: Global, plan: &Plan) -> Result<Vec<Out>, OutOfMemory>
+    ensures { IfOk result (λ outs. outs.items ≡ outs_of plan.now) }
+{
+    let mut outs = Vec::new(alloc);
+    add_texts(&mut outs, alloc, plan.texts.as_slice())?;
+    add_notes(&mut outs, plan.notes.as_slice())?;
+    Ok(outs)
 }
 
 /// Makes the room that the finish of a plan needs, and what it queues.
@@ -70,15 +64,14 @@ fn make_room(
     alloc: Global,
     conn: ConnNo,
     plan: &Plan,
-    outboxes: &mut Outboxes,
     wants: &mut Wants,
     journal: &mut Journal,
     seats: &mut Seats,
-) -> Result<Vec<Queued>, OutOfMemory>
+) -> Result<Vec<Out>, OutOfMemory>
     requires live { is_some (seat_at conn.0 seats.old.entries) ≡ true }
-    ensures outs { IfOk result (λ qs. qs.items ≡ outs_of conn plan.now) }
-    ensures queues { Roomier outboxes.old outboxes.new }
-    ensures queue_room { OnOk result (HasRoomFor (outs_of conn plan.now) outboxes.new) }
+    ensures outs { IfOk result (λ outs. outs.items ≡ outs_of plan.now) }
+    ensures queues { WidensAll seats.old.outs seats.new.outs }
+    ensures queue_room { IfOk result (λ outs. length outs.items ≤ room_at conn.0 seats.new.outs) }
     ensures wanted { wants.new.wanted ≡ wants.old.wanted }
     ensures wanted_taken { wants.new.taken ≡ wants.old.taken }
     ensures wants_room { OnOk result (makes plan.now.change ≤ wants.new.spare) }
@@ -88,14 +81,13 @@ fn make_room(
     ensures log_stays { journal.old.log_spare ≤ journal.new.log_spare }
     ensures beside_stays { journal.old.beside_spare ≤ journal.new.beside_spare }
     ensures prepares { OnOk result (Moves conn.0 (Lives (Prepares plan.now.change)) seats.old.entries seats.new.entries) }
-    ensures err { OnErr result (seats.new ≡ seats.old) }
+    ensures err { OnErr result (seats.new.entries ≡ seats.old.entries) }
 {
-    let queued = outs_of(alloc, conn, plan)?;
-    outboxes.reserve(conn, queued.len() as u64)?;
+    let outs = outs_of(alloc, plan)?;
     wants.reserve(plan.change.wants_made())?;
     journal.reserve()?;
-    seats.reserve_plan(conn, plan)?;
-    Ok(queued)
+    seats.reserve_plan(conn, plan, outs.len() as u64)?;
+    Ok(outs)
 }
 
 impl Node {
@@ -126,11 +118,10 @@ impl Node {
         let Ok(()) = self.ready.reserve(1) else {
             return Err(work);
         };
-        let Ok(queued) = make_room(
+        let Ok(outs) = make_room(
             self.alloc,
             work.conn,
             &work.plan,
-            &mut self.outboxes,
             &mut self.wants,
             &mut self.journal,
             &mut self.seats,
@@ -152,9 +143,8 @@ impl Node {
         release(&mut self.holders, conn, seat, &plan.change);
         self.wants
             .put_change(conn, SubNo(place), seat, &plan.change);
-        self.seats.finish(conn, &plan);
+        self.seats.finish(conn, &plan, outs);
         refresh(&mut self.ready, &self.seats, conn);
-        self.outboxes.put_all(queued);
         let puts = Listed::of(puts);
         self.journal
             .enter(Entry::Finish { conn, puts }, Beside::Worked { plan });

@@ -10,7 +10,7 @@ impl Node {
     fn is_drained(&self, conn: ConnNo) -> bool
         ensures { result ≡ is_drained conn.0 self.now }
     {
-        self.outboxes.is_empty(conn)
+        self.seats.is_drained(conn)
     }
 
     /// Whether the connection can be forgotten: it is over, it wasn't forgotten, and all that was queued on it was taken out. It takes no
@@ -18,7 +18,7 @@ impl Node {
     pub fn may_forget(&self, conn: ConnNo) -> bool
         ensures { result ≡ may_forget conn.0 self.now }
     {
-        self.is_over(conn) && (!self.outboxes.is_forgotten(conn) && self.is_drained(conn))
+        self.is_over(conn) && (!self.seats.is_forgotten(conn) && self.is_drained(conn))
     }
 
     /// Forgets a connection that is over and of which all was taken out: the memory of its queue is given back, and only how many were
@@ -33,6 +33,6 @@ impl Node {
         ensures others { (c : ℕ) → (c == conn.0) ≡ false → is_forgotten c self.new ≡ is_forgotten c self.old }
         ensures ready { self.new.ready ≡ self.old.ready }
     {
-        self.outboxes.forget(conn);
+        self.seats.forget(conn);
     }
 }

@@ -1,10 +1,9 @@
-ghost use Rattle.std.specs.Prelude.{◌≡◌, ◌≤◌, ℕ, [], None, Some, false, cond, is_some, length, option_map, slice_get, vec_capacity, OnErr, IfOk, IfErr, ◌∷◌};
+ghost use Rattle.std.specs.Prelude.{◌≡◌, ◌≤◌, ℕ, [], None, Some, false, cond, is_some, length, slice_get, vec_capacity, OnErr, IfOk, IfErr, ◌∷◌};
 ghost use Rattle.cable_model.specs.Plans.{IsAnswered, plan_for};
 ghost use Rattle.cable_model.specs.Possible.{can_take};
 ghost use Rattle.cable_model.specs.Steps.{Step};
 ghost use Rattle.conn_core.specs.Payloads.{AreCommittable, CarriesJson};
-ghost use Rattle.node_seats.specs.Numbers.{seat_at};
-ghost use Rattle.node_core.specs.Jobs.{IsJob, JobState, place_in, work_of};
+ghost use Rattle.node_core.specs.Jobs.{IsJob, JobState, work_of};
 ghost use Rattle.node_core.specs.Nodes.{GoesOn, HasReady, past, ReadsSame};
 
 use crate::nodes::Node;
@@ -13,7 +12,7 @@ use cable_base::{ConnNo, NodeNo, OutOfMemory, RowId, Text};
 use cable_model::{Beside, Entry, Plan, Task};
 use channel_book::Callbacks;
 use conn_core::plan;
-use node_seats::Seats;
+use node_seats::Errand;
 use std::alloc::Global;
 use std::marker::Model;
 
@@ -70,7 +69,7 @@ impl Job {
 
     /// Plans the work with these callbacks. The job comes back where memory is wanted.
     pub fn plan<C: Callbacks>(self, callbacks: &C) -> Result<Work, Job>
-        ensures ok { IfOk result (λ w. w ≡ work_of (record { identify = C.user_of callbacks.now; subscribed = C.subscribed_of callbacks.now; unsubscribed = C.unsubscribed_of callbacks.now; perform = C.performed_of callbacks.now }) self) }
+        ensures ok { IfOk result (λ w. w ≡ work_of (C.answers callbacks.now) self) }
         ensures err { IfErr result (λ j. j ≡ self) }
     {
         let made = make_plan(self.alloc, &self.task, self.user.as_str(), callbacks);
@@ -116,9 +115,9 @@ fn make_plan<C: Callbacks>(
     callbacks: &C,
 ) -> Result<Planned, OutOfMemory>
     requires { CarriesJson task.now }
-    ensures plan { IfOk result (λ p. p.plan ≡ plan_for (record { identify = C.user_of callbacks.now; subscribed = C.subscribed_of callbacks.now; unsubscribed = C.unsubscribed_of callbacks.now; perform = C.performed_of callbacks.now }) user.now task.now) }
+    ensures plan { IfOk result (λ p. p.plan ≡ plan_for (C.answers callbacks.now) user.now task.now) }
     ensures casts { IfOk result (λ p. AreCommittable p.plan.casts) }
-    ensures answered { IfOk result (λ _. IsAnswered (record { identify = C.user_of callbacks.now; subscribed = C.subscribed_of callbacks.now; unsubscribed = C.unsubscribed_of callbacks.now; perform = C.performed_of callbacks.now }) user.now task.now) }
+    ensures answered { IfOk result (λ _. IsAnswered (C.answers callbacks.now) user.now task.now) }
     ensures puts { IfOk result (λ p. p.puts.items ≡ []) }
     ensures room { IfOk result (λ p. length p.plan.casts ≤ vec_capacity p.puts) }
 {
@@ -126,29 +125,6 @@ fn make_plan<C: Callbacks>(
     let mut puts = Vec::new(alloc);
     puts.reserve(plan.casts.as_slice().len())?;
     Ok(Planned { plan, puts })
-}
-
-/// The user of the connection, where it is live.
-fn user_of(seats: &Seats, alloc: Global, conn: ConnNo) -> Result<Option<Text>, OutOfMemory>
-    ensures { IfOk result (λ u. u ≡ option_map (λ s. s.user) (seat_at conn.0 seats.now.entries)) }
-{
-    let Some(seat) = seats.get(conn) else {
-        return Ok(None);
-    };
-    Ok(Some(seat.user_text().copy(alloc)?))
-}
-
-/// The place of the piece of the connection that is out.
-fn place(seats: &Seats, conn: ConnNo) -> u64
-    ensures { result ≡ place_in (seat_at conn.0 seats.now.entries) }
-{
-    let Some(seat) = seats.get(conn) else {
-        return 0;
-    };
-    match seat.job_place() {
-        Some(place) => place,
-        None => 0,
-    }
 }
 
 impl Node {
@@ -163,22 +139,18 @@ impl Node {
         ensures goes { GoesOn self.old self.new }
         ensures err { OnErr result (ReadsSame self.old self.new) }
     {
-        let user = user_of(&self.seats, self.alloc, conn)?;
-        let Some(user) = user else {
-            return Ok(None);
-        };
         self.journal.reserve()?;
-        let task = self.seats.take(conn)?;
-        let Some(task) = task else {
+        let Some(errand) = self.seats.take(conn)? else {
             return Ok(None);
         };
         self.ready.drop_out(conn);
         self.journal.enter(Entry::Take { conn }, Beside::Nothing);
+        let Errand { place, user, task } = errand;
         Ok(Some(Job {
             alloc: self.alloc,
             node: self.no,
             conn,
-            place: place(&self.seats, conn),
+            place,
             user,
             task,
         }))
@@ -190,7 +162,8 @@ impl Node {
         ensures no { self.new.no ≡ self.old.no }
         ensures ready { HasReady self.old }
         ensures none { IfOk result (λ j. j ≡ None → ((c : ℕ) → can_take c (past self.old) ≡ false) × ReadsSame self.old self.new) }
-        ensures ok { IfOk result (λ o. (j : JobState) → o ≡ Some j → (slice_get self.old.ready 0 ≡ Some j.conn) × (past self.new ≡ Step.Take j.conn.0 ∷ past self.old) × IsJob j self.new) }
+        ensures ok { IfOk result (λ o. (j : JobState) → o ≡ Some j
+            → (slice_get self.old.ready 0 ≡ Some j.conn) × (past self.new ≡ Step.Take j.conn.0 ∷ past self.old) × IsJob j self.new) }
         ensures goes { GoesOn self.old self.new }
         ensures err { OnErr result (ReadsSame self.old self.new) }
     {

@@ -21,7 +21,11 @@ impl Model for Journal {
 
     ghost Value = { JournalState };
 
-    ghost view = { λ a. record { kept = record { log = a.log.entries; beside = a.beside.items }; log_spare = a.log.spare; beside_spare = vec_capacity a.beside - vec_len a.beside } };
+    ghost view = { λ a. record {
+      kept = record { log = a.log.entries; beside = a.beside.items };
+      log_spare = a.log.spare;
+      beside_spare = vec_capacity a.beside - vec_len a.beside;
+    } };
 
     ghost invariant = { λ a. length a.log.entries ≡ length a.beside.items };
 }

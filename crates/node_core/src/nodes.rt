@@ -8,14 +8,14 @@ ghost use Rattle.node_core.specs.Nodes.{HasReady, is_forgotten, line_on, past, t
 use crate::journals::Journal;
 use cable_base::{ConnNo, NodeNo, OutOfMemory, RowId};
 use cable_model::Entry;
-use node_outbox::{Out, Outboxes};
+use conn_seat::Out;
 use node_seats::Seats;
+use node_turns::Wants;
 use poll_turn::Cursor;
 use run_queue::Ready;
 use std::alloc::Global;
 use std::marker::Model;
 use subscriber_map::SubscriberMap;
-use turn_wants::Wants;
 
 /// One node. Its type keeps that its journal is legal, that its connections, what is queued on them, their holds, the wants that turns are
 /// to take and where its listener stands are those of its journal, and that its ready connections are exactly those of which a piece can
@@ -26,7 +26,6 @@ pub struct Node {
     pub(crate) no: NodeNo,
     pub(crate) journal: Journal,
     pub(crate) seats: Seats,
-    pub(crate) outboxes: Outboxes,
     pub(crate) cursor: Cursor,
     pub(crate) holders: SubscriberMap,
     pub(crate) wants: Wants,
@@ -39,10 +38,10 @@ impl Model for Node {
 
     ghost Value = { NodeState };
 
-    ghost view = { λ n. record { no = n.no; kept = n.journal.kept; outs = n.outboxes; ready = n.ready.waiting } };
+    ghost view = { λ n. record { no = n.no; kept = n.journal.kept; outs = n.seats.outs; ready = n.ready.waiting } };
 
     ghost invariant = { λ n. record {
-      stands : Stands (past_of n.journal.kept) n.seats.entries n.outboxes n.cursor n.holders n.wants.wanted n.wants.taken;
+      stands : Stands (past_of n.journal.kept) n.seats.entries n.seats.outs n.cursor n.holders n.wants.wanted n.wants.taken;
       turn_room : HasTurnRoom (past_of n.journal.kept) n.journal;
       ready : AreReady n.seats.entries n.ready.waiting;
     } };
@@ -63,7 +62,6 @@ impl Node {
             no,
             journal,
             seats: Seats::empty(alloc),
-            outboxes: Outboxes::empty(alloc),
             cursor: Cursor::at(last),
             holders: SubscriberMap::empty(alloc),
             wants: Wants::empty(alloc),
@@ -114,11 +112,12 @@ impl Node {
         ensures kept { self.new.kept ≡ self.old.kept }
         ensures out { MatchOption result (length (queued conn.0 (past self.old)) ≤ taken_out conn.0 self.old)
             (λ out. slice_get (queued conn.0 (past self.old)) (taken_out conn.0 self.old) ≡ Some (line_on conn.0 out)) }
-        ensures taken { MatchOption result (taken_out conn.0 self.new ≡ taken_out conn.0 self.old) (λ _. taken_out conn.0 self.new ≡ taken_out conn.0 self.old + 1) }
+        ensures taken { MatchOption result (taken_out conn.0 self.new ≡ taken_out conn.0 self.old)
+            (λ _. taken_out conn.0 self.new ≡ taken_out conn.0 self.old + 1) }
         ensures others { (c : ℕ) → (c == conn.0) ≡ false → taken_out c self.new ≡ taken_out c self.old }
         ensures ready { self.new.ready ≡ self.old.ready }
         ensures forgotten { (c : ℕ) → is_forgotten c self.new ≡ is_forgotten c self.old }
     {
-        self.outboxes.take_out(conn)
+        self.seats.take_out(conn)
     }
 }

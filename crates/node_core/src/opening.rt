@@ -4,9 +4,10 @@ ghost use Rattle.cable_model.specs.Limits.{most_connections};
 ghost use Rattle.cable_model.specs.Steps.{Step};
 ghost use Rattle.cable_model.specs.Transcript.{greeting};
 ghost use Rattle.node_seats.specs.Numbers.{Rising, live_among, opened_at};
+ghost use Rattle.node_seats.specs.Outboxes.{Queues};
 ghost use Rattle.node_core.specs.Nodes.{GoesOn, past, ReadsSame};
-ghost use Rattle.node_outbox.specs.declared.outs.Out.TheVariants as out;
-ghost use Rattle.turn_wants.specs.Wished.{own_wanted};
+ghost use Rattle.conn_seat.specs.declared.outs.Out.TheVariants as out;
+ghost use Rattle.node_turns.specs.Wished.{own_wanted};
 ghost use Rattle.node_core.specs.Opening.{OpensAs, RefusesOpen, open_fault};
 
 use crate::nodes::Node;
@@ -14,10 +15,10 @@ use cable_base::{ConnNo, OutOfMemory, SubNo, Text, WantNo};
 use cable_json::{Reason, disconnect, welcome};
 use cable_model::{Beside, Entry};
 use channel_book::Callbacks;
-use node_outbox::{Out, Queued};
+use conn_seat::Out;
 use node_seats::{Seats, Wanted};
+use node_turns::Wants;
 use std::alloc::Global;
-use turn_wants::Wants;
 
 /// Why a connection isn't opened. The first cause that holds is answered.
 #[derive(Clone, Copy, Debug, PartialEq, Eq)]
@@ -41,26 +42,14 @@ impl From<OutOfMemory> for OpenFault {
 }
 
 /// What is said to a connection that opens.
-fn greeting(alloc: Global, user: Option<&str>) -> Result<Text, OutOfMemory>
-    ensures { IfOk result (λ t. t ≡ greeting (option_map (λ u. u.now) user.entry)) }
+fn greeting(alloc: Global, user: Option<&str>) -> Result<Out, OutOfMemory>
+    ensures { IfOk result (λ o. o ≡ out.Text (greeting (option_map (λ u. u.now) user.entry))) }
 {
-    match user {
-        Some(_) => welcome(alloc),
-        None => disconnect(alloc, Reason::Unauthorized, false),
-    }
-}
-
-/// What is said to a connection that opens, to be queued on it.
-fn greeting_on(alloc: Global, conn: ConnNo, user: Option<&str>) -> Result<Vec<Queued>, OutOfMemory>
-    ensures { IfOk result (λ qs. qs.items ≡ record { conn = conn; out = out.Text (greeting (option_map (λ u. u.now) user.entry)) } ∷ []) }
-{
-    let text = greeting(alloc, user)?;
-    let mut queued = Vec::new(alloc);
-    queued.push(Queued {
-        conn,
-        out: Out::Text(text),
-    })?;
-    Ok(queued)
+    let text = match user {
+        Some(_) => welcome(alloc)?,
+        None => disconnect(alloc, Reason::Unauthorized, false)?,
+    };
+    Ok(Out::Text(text))
 }
 
 /// Puts the want of a connection's own name, where it has a user, behind those that turns are to take.
@@ -91,22 +80,23 @@ fn beside(alloc: Global, user: Option<&str>) -> Result<Beside, OutOfMemory>
     })
 }
 
-/// Keeps the number: with a connection of the user, or as one that is over.
+/// Keeps the number, with a connection of the user or as one that is over, and queues its greeting.
 fn keep(
     seats: &mut Seats,
-    alloc: Global,
     conn: ConnNo,
     user: Option<&str>,
+    greeting: Out,
 ) -> Result<(), OutOfMemory>
     requires unused { opened_at conn.0 seats.old.entries ≡ None }
     requires room { live_among seats.old.entries < most_connections }
     ensures opens { OnOk result (OpensAs conn.0 (option_map (λ u. u.now) user.entry) seats.old.entries seats.new.entries) }
+    ensures queues { OnOk result (Queues (record { conn = conn; out = greeting } ∷ []) seats.old.outs seats.new.outs) }
     ensures rising { OnOk result (Rising seats.new.entries) }
     ensures err { OnErr result (seats.new ≡ seats.old) }
 {
     match user {
-        Some(user) => seats.open(alloc, conn, user),
-        None => seats.refuse(conn),
+        Some(user) => seats.open(conn, user, greeting),
+        None => seats.refuse(conn, greeting),
     }
 }
 
@@ -121,7 +111,7 @@ impl Node {
     ) -> Result<(), OpenFault>
         ensures no { self.new.no ≡ self.old.no }
         ensures fault { RefusesOpen (open_fault conn.0 (past self.old)) result }
-        ensures ok { OnOk result (past self.new ≡ Step.Open conn.0 token.now (C.user_of callbacks.now token.now) ∷ past self.old) }
+        ensures ok { OnOk result (past self.new ≡ Step.Open conn.0 token.now ((C.answers callbacks.now).identify token.now) ∷ past self.old) }
         ensures goes { OnOk result (GoesOn self.old self.new) }
         ensures err { OnErr result (ReadsSame self.old self.new) }
     {
@@ -144,20 +134,18 @@ impl Node {
     ) -> Result<(), OutOfMemory>
         requires { open_fault conn.0 (past self.old) ≡ None }
         ensures no { self.new.no ≡ self.old.no }
-        ensures ok { OnOk result (past self.new ≡ Step.Open conn.0 token.now (C.user_of callbacks.now token.now) ∷ past self.old) }
+        ensures ok { OnOk result (past self.new ≡ Step.Open conn.0 token.now ((C.answers callbacks.now).identify token.now) ∷ past self.old) }
         ensures goes { OnOk result (GoesOn self.old self.new) }
         ensures err { OnErr result (ReadsSame self.old self.new) }
     {
         let user = callbacks.identify(token);
-        let queued = greeting_on(self.alloc, conn, user)?;
+        let greeting = greeting(self.alloc, user)?;
         let beside = beside(self.alloc, user)?;
         let token = Text::new(self.alloc, token)?;
         // Room first: behind `keep`, which changes nothing where it fails, nothing can fail.
-        self.outboxes.reserve(conn, 1)?;
         self.wants.reserve(1)?;
         self.journal.reserve()?;
-        keep(&mut self.seats, self.alloc, conn, user)?;
-        self.outboxes.put_all(queued);
+        keep(&mut self.seats, conn, user, greeting)?;
         want_own(&mut self.wants, conn, user);
         self.journal.enter(Entry::Open { conn, token }, beside);
         Ok(())

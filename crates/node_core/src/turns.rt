@@ -1,10 +1,10 @@
 ghost use Rattle.std.specs.Prelude.{◌≡◌, ◌≤◌, ◌+◌, ◌∷◌, ◌++◌, [], suc, true, false, cond, length, not, None, Some, is_some, IfOk, IfErr, OnOk, OnErr, IsOk};
 ghost use Rattle.cable_model.specs.Possible.{is_out, last_turn};
 ghost use Rattle.cable_model.specs.Steps.{Step};
-ghost use Rattle.node_holds.specs.Holding.{AreNew, placings_of, rows_bring, with_placings};
+ghost use Rattle.node_turns.specs.Holding.{AreNew, placings_of, rows_bring, with_placings};
 ghost use Rattle.node_seats.specs.Turned.{HasRoomFor, Roomier};
 ghost use Rattle.poll_turn.specs.Turns.{TurnState};
-ghost use Rattle.turn_wants.specs.Wants.{confirms_of};
+ghost use Rattle.node_turns.specs.Wants.{confirms_of};
 ghost use Rattle.node_core.specs.Nodes.{GoesOn, past, ReadsSame};
 ghost use Rattle.node_core.specs.Serving.{conns_of, ListsOnce};
 ghost use Rattle.node_core.specs.Turned.{IsNextTurn, is_expected};
@@ -14,14 +14,13 @@ use crate::nodes::Node;
 use crate::serving::{conns_of, refresh_all};
 use cable_base::{ConnNo, Listed, OutOfMemory, Row, Steps};
 use cable_model::{Beside, Entry, ReadNote};
-use node_holds::{add_rows, hold_all, placings};
 use node_seats::{Delivery, Seats, Wanted};
+use node_turns::{add_confirms, add_rows, hold_all, placings};
 use poll_turn::{Caught, Turn};
 use run_queue::Ready;
 use std::alloc::Global;
 use std::sync::ledger::Ledger;
 use subscriber_map::SubscriberMap;
-use turn_wants::add_confirms;
 
 /// A list with copies of these rows.
 fn copied_rows(alloc: Global, rows: &[Row]) -> Result<Listed<Row>, OutOfMemory>
@@ -70,6 +69,7 @@ fn bring<L: Ledger>(
     ensures note { IfOk result (λ b. b.note ≡ note_in caught.now) }
     ensures pieces { IfOk result (λ b. b.deliveries.items ≡ rows_bring holders.old caught.now.rows ++ confirms_of seats.old.entries taken.now) }
     ensures seats { Roomier seats.old.entries seats.new.entries }
+    ensures outs { seats.new.outs ≡ seats.old.outs }
     ensures room { IfOk result (λ b. HasRoomFor b.deliveries.items seats.new.entries) }
     ensures held { OnOk result (holders.new ≡ with_placings (placings_of seats.old.entries caught.now.last taken.now) holders.old) }
     ensures err { OnErr result (holders.new ≡ holders.old) }

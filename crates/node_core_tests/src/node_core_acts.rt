@@ -1,8 +1,8 @@
 use cable_base::{ConnNo, Millis, RowId};
 use cable_model::{Entry, Note};
 use channel_book::Book;
+use conn_seat::Out;
 use node_core::{ArriveFault, Job, Node, OpenFault, Work};
-use node_outbox::Out;
 use std::alloc::Global;
 
 /// A call of a node, with what it has to answer.

@@ -1,1 +1,1 @@
-pub mod FirstSubscriptions
+pub mod FirstPieces

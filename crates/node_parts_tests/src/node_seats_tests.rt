@@ -1,7 +1,9 @@
+use crate::seat_fixtures::{opens, refuses};
 use cable_base::{ConnNo, OutOfMemory, RowId, SubNo, WantNo};
-use cable_json::CommandFault;
-use cable_model::Piece;
-use node_seats::{Delivery, Seats, Wanted};
+use cable_fixtures::faulty;
+use cable_model::{Note, Piece, Task};
+use conn_seat::Out;
+use node_seats::{Delivery, Errand, Seats, Wanted};
 use std::alloc::Global;
 use std::test::Fail;
 
@@ -9,18 +11,9 @@ const ANN: ConnNo = ConnNo(7);
 
 const BEN: ConnNo = ConnNo(3);
 
-fn faulty() -> Piece {
-    Piece::Cmd {
-        read: Err(CommandFault::BadJson),
-    }
-}
-
-fn open(seats: &mut Seats, alloc: Global, conn: ConnNo, user: &str) -> Result<(), Fail> {
-    if seats.is_used(conn) || seats.is_full() {
-        return Err(Fail::from("it can't be opened"));
-    }
-    seats.open(alloc, conn, user)?;
-    Ok(())
+/// Opens the connections of ann and ben.
+fn opens_both(seats: &mut Seats, alloc: Global) -> Result<bool, OutOfMemory> {
+    Ok(opens(seats, alloc, ANN, "ann")? && opens(seats, alloc, BEN, "ben")?)
 }
 
 fn put(seats: &mut Seats, conn: ConnNo, piece: Piece) -> Result<(), Fail> {
@@ -33,6 +26,19 @@ fn put(seats: &mut Seats, conn: ConnNo, piece: Piece) -> Result<(), Fail> {
     }
     seats.put(conn, piece)?;
     Ok(())
+}
+
+/// Whether this is told of a text of ann that isn't JSON, the first piece of her connection.
+fn is_of_ann(errand: &Errand) -> bool {
+    errand.place == 1 && errand.user.as_str() == "ann" && errand.task == Task::Note(Note::BadJson)
+}
+
+/// Takes ann's first piece, a text that isn't JSON.
+fn takes_of_ann(seats: &mut Seats) -> Result<bool, OutOfMemory> {
+    match seats.take(ANN)? {
+        Some(errand) => Ok(is_of_ann(&errand)),
+        None => Ok(false),
+    }
 }
 
 fn take(seats: &mut Seats, conn: ConnNo) -> Result<bool, Fail> {
@@ -51,12 +57,8 @@ fn numbers(seats: &Seats, alloc: Global) -> Result<Vec<u64>, OutOfMemory> {
 fn opens_and_refuses(rt: HostRuntime) -> Result<(), Fail> {
     let alloc = rt.alloc();
     let mut seats = Seats::empty(alloc);
-    open(&mut seats, alloc, ANN, "ann")?;
-    open(&mut seats, alloc, BEN, "ben")?;
-    if seats.is_used(ConnNo(5)) {
-        return Err(Fail::from("it is used"));
-    }
-    seats.refuse(ConnNo(5))?;
+    assert!(rt; opens_both(&mut seats, alloc)?);
+    assert!(rt; refuses(&mut seats, ConnNo(5), Out::Note(Note::BadJson)));
     assert!(rt; seats.is_over(ConnNo(5)) && seats.is_used(ConnNo(5)));
     assert!(rt; seats.get(ConnNo(5)).is_none());
     assert!(rt; !seats.is_over(ANN) && !seats.is_full());
@@ -72,14 +74,12 @@ fn opens_and_refuses(rt: HostRuntime) -> Result<(), Fail> {
 fn takes_in_order(rt: HostRuntime) -> Result<(), Fail> {
     let alloc = rt.alloc();
     let mut seats = Seats::empty(alloc);
-    open(&mut seats, alloc, ANN, "ann")?;
-    open(&mut seats, alloc, BEN, "ben")?;
+    assert!(rt; opens_both(&mut seats, alloc)?);
     put(&mut seats, ANN, faulty())?;
     put(&mut seats, ANN, Piece::Gone)?;
     assert!(rt; !take(&mut seats, BEN)?);
     assert!(rt; !take(&mut seats, ConnNo(5))?);
-    assert!(rt; take(&mut seats, ANN)?);
-    assert!(rt; !take(&mut seats, ANN)?);
+    assert!(rt; takes_of_ann(&mut seats)? && !take(&mut seats, ANN)?);
     assert!(rt; numbers(&seats, alloc)?.as_slice() == [3].as_slice());
     match seats.get(ANN) {
         Some(seat) => {
@@ -95,8 +95,7 @@ fn takes_in_order(rt: HostRuntime) -> Result<(), Fail> {
 fn stops_each_live_one(rt: HostRuntime) -> Result<(), Fail> {
     let alloc = rt.alloc();
     let mut seats = Seats::empty(alloc);
-    open(&mut seats, alloc, ANN, "ann")?;
-    open(&mut seats, alloc, BEN, "ben")?;
+    assert!(rt; opens_both(&mut seats, alloc)?);
     put(&mut seats, BEN, Piece::Gone)?;
     seats.stop();
     assert!(rt; numbers(&seats, alloc)?.is_empty());
@@ -147,8 +146,7 @@ fn takes(seats: &mut Seats, conn: ConnNo, piece: &Piece, more: bool) -> Result<b
 fn delivers_to_two_connections(rt: HostRuntime) -> Result<(), Fail> {
     let alloc = rt.alloc();
     let mut seats = Seats::empty(alloc);
-    open(&mut seats, alloc, ANN, "ann")?;
-    open(&mut seats, alloc, BEN, "ben")?;
+    assert!(rt; opens_both(&mut seats, alloc)?);
     deliver(&mut seats, alloc)?;
     assert!(rt; !seats.is_used(ConnNo(5)));
     assert!(rt; takes(&mut seats, ANN, &Piece::Confirm { sub: SubNo(4) }, true)?);
@@ -167,7 +165,7 @@ const WANTED: Wanted = Wanted {
 fn places_no_want_that_does_not_stand(rt: HostRuntime) -> Result<(), Fail> {
     let alloc = rt.alloc();
     let mut seats = Seats::empty(alloc);
-    open(&mut seats, alloc, ANN, "ann")?;
+    assert!(rt; opens(&mut seats, alloc, ANN, "ann")?);
     seats.place_all(
         &[
             Wanted {
@@ -178,7 +176,7 @@ fn places_no_want_that_does_not_stand(rt: HostRuntime) -> Result<(), Fail> {
         ],
         RowId(7),
     );
-    assert!(rt; !seats.is_used(BEN) && seats.take(ANN)?.is_none());
+    assert!(rt; !seats.is_used(BEN) && !take(&mut seats, ANN)?);
     match seats.get(ANN) {
         Some(seat) => assert!(rt; seat.subs().is_empty()),
         None => return Err(Fail::from("it isn't live")),

@@ -14,11 +14,9 @@ use Rattle.conn_core.specs.Subscriptions.{Subscription, placed_in}
 use Rattle.conn_seat.specs.Seats.{Seated, Becomes, with_piece}
 use Rattle.conn_seat.specs.Turns.{with_pieces, placed_each}
 use Rattle.conn_seat.proofs.Turning.{puts-on}
-use Rattle.node_seats.specs.declared.opened.Opened.{Opened}
-use Rattle.node_seats.specs.declared.opened.Opened.TheVariants as opened
 use Rattle.node_seats.specs.declared.turning.Delivery.{Delivery}
 use Rattle.node_seats.specs.declared.turning.Wanted.{Wanted}
-use Rattle.node_seats.specs.Numbers.{Numbers, Moves, Lives, opened_at, seat_at, seat_in}
+use Rattle.node_seats.specs.Numbers.{Numbers, Opened, Moves, Lives, opened_at, seat_at, seat_in}
 use Rattle.node_seats.specs.Turned.{Turns, TurnsOne, Roomier, Delivers, Places, is_for, is_by, pieces_for, pairs_by, pair_of}
 use Rattle.node_seats.proofs.Lookups.{found-there, found-elsewhere}
 use Rattle.node_seats.proofs.Entries.{live, self, apart-test}
@@ -53,21 +51,21 @@ placed-more mark (t ∷ ts) us subs = placed-more mark ts us (placed_in t.0 t.1 
 module _ (A B C : Seated → Seated → Type 0) (on : (s t u : Seated) → A s t → B t u → C s u) where
   one-on : (o p q : Option Opened) → TurnsOne A o p → TurnsOne B p q → TurnsOne C o q
   one-on None p q a b = subst (λ x. TurnsOne B x q) a b
-  one-on (Some opened.Over) p q a b = subst (λ x. TurnsOne B x q) a b
-  one-on (Some (opened.Live s)) p q a b = let m = subst (λ x. TurnsOne B x q) a.2 b in (m.0, on s a.0 m.0 a.1 m.1, m.2)
+  one-on (Some Opened.Over) p q a b = subst (λ x. TurnsOne B x q) a b
+  one-on (Some (Opened.Live s)) p q a b = let m = subst (λ x. TurnsOne B x q) a.2 b in (m.0, on s a.0 m.0 a.1 m.1, m.2)
 
 -- two calls are one
 pub turns-on : (A B C : ℕ → Seated → Seated → Type 0) (v w x : Numbers) → ((c : ℕ) (s t u : Seated) → A c s t → B c t u → C c s u) → Turns A v w → Turns B w x → Turns C v x
 turns-on A B C v w x on a b =
     record { numbers = b.numbers ∙ a.numbers; each = λ c. one-on (A c) (B c) (C c) (on c) (opened_at c v) (opened_at c w) (opened_at c x) (a.each c) (b.each c) }
 
-pub one-same : (By : Seated → Seated → Type 0) (o : Option Opened) → ((s : Seated) → o ≡ Some (opened.Live s) → By s s) → TurnsOne By o o
+pub one-same : (By : Seated → Seated → Type 0) (o : Option Opened) → ((s : Seated) → o ≡ Some (Opened.Live s) → By s s) → TurnsOne By o o
 one-same By None same = refl
-one-same By (Some opened.Over) same = refl
-one-same By (Some (opened.Live s)) same = (s, same s refl, refl)
+one-same By (Some Opened.Over) same = refl
+one-same By (Some (Opened.Live s)) same = (s, same s refl, refl)
 
 -- nothing is done
-pub turns-none : (By : ℕ → Seated → Seated → Type 0) (v : Numbers) → ((c : ℕ) (s : Seated) → opened_at c v ≡ Some (opened.Live s) → By c s s) → Turns By v v
+pub turns-none : (By : ℕ → Seated → Seated → Type 0) (v : Numbers) → ((c : ℕ) (s : Seated) → opened_at c v ≡ Some (Opened.Live s) → By c s s) → Turns By v v
 turns-none By v same = record { numbers = refl; each = λ c. one-same (By c) (opened_at c v) (same c) }
 
 -- a call on one of them
@@ -76,18 +74,18 @@ pub turns-one : (By : Seated → Seated → Type 0) (C : ℕ → Seated → Seat
 turns-one By C n v new mine others m =
     let l = live By n v new m in
     record {
-      numbers = ap (λ es. map (λ (e : ℕ × Opened). e.0) es) l.now ∙ keys-set_value (is_at (nat_cmp n)) v (opened.Live l.new_seat);
+      numbers = ap (λ es. map (λ (e : ℕ × Opened). e.0) es) l.now ∙ keys-set_value (is_at (nat_cmp n)) v (Opened.Live l.new_seat);
       each = λ c. elim (cases_eq n c) [
         | inl e ↦ subst (λ (x : ℕ). TurnsOne (C x) (opened_at x v) (opened_at x new)) e
             (subst (λ (o : Option Opened). TurnsOne (C n) o (opened_at n new)) (sym l.found)
-            (l.new_seat, mine l.old_seat l.new_seat l.moved_by, ap (opened_at n) l.now ∙ found-there n (opened.Live l.new_seat) (opened.Live l.old_seat) v l.found))
-        | inr apart ↦ subst (λ (o : Option Opened). TurnsOne (C c) (opened_at c v) o) (sym (ap (opened_at c) l.now ∙ found-elsewhere n c (opened.Live l.new_seat) v apart))
+            (l.new_seat, mine l.old_seat l.new_seat l.moved_by, ap (opened_at n) l.now ∙ found-there n (Opened.Live l.new_seat) (Opened.Live l.old_seat) v l.found))
+        | inr apart ↦ subst (λ (o : Option Opened). TurnsOne (C c) (opened_at c v) o) (sym (ap (opened_at c) l.now ∙ found-elsewhere n c (Opened.Live l.new_seat) v apart))
             (one-same (C c) (opened_at c v) (λ s at. others c s apart))
       ];
     }
 
 -- one that isn't live isn't there
-pub not-live : (c : ℕ) (v : Numbers) (s : Seated) → seat_at c v ≡ None → opened_at c v ≡ Some (opened.Live s) → ⊥
+pub not-live : (c : ℕ) (v : Numbers) (s : Seated) → seat_at c v ≡ None → opened_at c v ≡ Some (Opened.Live s) → ⊥
 not-live c v s none at = let e : None ≡ Some s = sym none ∙ ap seat_in at in cc
 
 -- ---- room
@@ -132,7 +130,7 @@ delivers-one d v new m =
 pub delivers-dead : (d : Delivery) (v : Numbers) → seat_at d.conn.0 v ≡ None → Delivers (d ∷ []) v v
 delivers-dead d v none =
     turns-none _ v (λ c s at. elim (cases_eq d.conn.0 c) [
-      | inl e ↦ absurd (not-live d.conn.0 v s none (subst (λ (x : ℕ). opened_at x v ≡ Some (opened.Live s)) (sym e) at))
+      | inl e ↦ absurd (not-live d.conn.0 v s none (subst (λ (x : ℕ). opened_at x v ≡ Some (Opened.Live s)) (sym e) at))
       | inr apart ↦ subst (λ (ps : List Piece). Becomes (with_pieces ps s) s) (sym (pieces-other c d [] apart)) (becomes-itself s)
     ])
 
@@ -171,7 +169,7 @@ places-one mark w v new m =
 pub places-dead : (mark : RowId) (w : Wanted) (v : Numbers) → seat_at w.conn.0 v ≡ None → Places mark (w ∷ []) v v
 places-dead mark w v none =
     turns-none _ v (λ c s at. elim (cases_eq w.conn.0 c) [
-      | inl e ↦ absurd (not-live w.conn.0 v s none (subst (λ (x : ℕ). opened_at x v ≡ Some (opened.Live s)) (sym e) at))
+      | inl e ↦ absurd (not-live w.conn.0 v s none (subst (λ (x : ℕ). opened_at x v ≡ Some (Opened.Live s)) (sym e) at))
       | inr apart ↦ ap (λ ts. marked_with mark ts s) (sym (pairs-other c w [] apart))
     ])
 

@@ -12,9 +12,7 @@ use Rattle.cable_model.specs.Steps.{Step}
 use Rattle.conn_seat.specs.Seats.{Seated}
 use Rattle.conn_seat.specs.Seated.{SeatOf}
 use Rattle.conn_seat.proofs.Answering.{answers}
-use Rattle.node_seats.specs.declared.opened.Opened.{Opened}
-use Rattle.node_seats.specs.declared.opened.Opened.TheVariants as kept
-use Rattle.node_seats.specs.Numbers.{Numbers, opened_at, is_over_in, is_over_at, live_among, receiving_among, is_receiving_in, weight}
+use Rattle.node_seats.specs.Numbers.{Numbers, Opened, opened_at, is_over_in, is_over_at, live_among, receiving_among, is_receiving_in, weight}
 use Rattle.node_seats.specs.AreSeats.{IsOpened, AreSeats, AreWorked}
 use Rattle.node_seats.proofs.Onward.{entries, used-is}
 
@@ -25,8 +23,8 @@ live-is c past s h shut =
     ap (λ (o : Option (List ℕ)). is_some o && not (seat c past).conn.over) h.user ∙ ap not (sym h.shows.conn.over ∙ shut)
 
 weigh : (c : ℕ) (past : List Step) (o : Opened) → IsOpened c past o → weight o ≡ cond (is_live c past) 1 0
-weigh c past (kept.Live s) h = let l = live-is c past s h.0 h.1 in rw l refl
-weigh c past kept.Over h = let l = h.live in rw l refl
+weigh c past (Opened.Live s) h = let l = live-is c past s h.0 h.1 in rw l refl
+weigh c past Opened.Over h = let l = h.live in rw l refl
 
 count-live : (past : List Step) (v : Numbers) → AllByRecursion (λ (e : ℕ × Opened). IsOpened e.0 past e.1) v → live_among v ≡ length (filter (λ c. is_live c past) (keys_of v))
 count-live past [] h = refl
@@ -47,8 +45,8 @@ live-count past v a = count-live past v (entries past v a) ∙ ap (λ ks. length
 -- ---- those that are receiving
 
 pub receiving-is : (c : ℕ) (past : List Step) (o : Opened) → AreWorked past → IsOpened c past o → is_receiving_in o ≡ is_receiving c past
-receiving-is c past (kept.Live s) w h = let pl = w c s.user h.0.user in (answers pl.0 c past s pl.1 h.0).receiving
-receiving-is c past kept.Over w h = let l = h.live in rw l refl
+receiving-is c past (Opened.Live s) w h = let pl = w c s.user h.0.user in (answers pl.0 c past s pl.1 h.0).receiving
+receiving-is c past Opened.Over w h = let l = h.live in rw l refl
 
 conn_no : ℕ → ConnNo
 conn_no c = record { 0 = c }
@@ -72,12 +70,12 @@ receiving-all past v w a = list-receiving past v w (entries past v a) ∙ ap (fi
 
 over-in : (c : ℕ) (past : List Step) (o : Option Opened) → ((p : Opened) → o ≡ Some p → IsOpened c past p) → is_some o ≡ is_opened c past → is_over_in o ≡ is_over c past
 over-in c past None h used = ap (λ b. b && not (is_live c past)) used
-over-in c past (Some (kept.Live s)) h used =
-    let f = h (kept.Live s) refl in
+over-in c past (Some (Opened.Live s)) h used =
+    let f = h (Opened.Live s) refl in
     let l = live-is c past s f.0 f.1 in
     ap (λ b. true && not b) (sym l) ∙ ap (λ b. b && not (is_live c past)) used
-over-in c past (Some kept.Over) h used =
-    let l = (h kept.Over refl).live in
+over-in c past (Some Opened.Over) h used =
+    let l = (h Opened.Over refl).live in
     ap (λ b. true && not b) (sym l) ∙ ap (λ b. b && not (is_live c past)) used
 
 pub over-is : (past : List Step) (v : Numbers) (c : ℕ) → AreSeats past v → is_over_at c v ≡ is_over c past

@@ -20,9 +20,7 @@ use Rattle.conn_seat.specs.Seats.{Seated, Becomes, with_piece}
 use Rattle.conn_seat.specs.Turns.{with_pieces, with_turn, taken_by, placed_each}
 use Rattle.conn_seat.proofs.Sitting.{sits-room}
 use Rattle.conn_seat.proofs.Turning.{sits-found}
-use Rattle.node_seats.specs.declared.opened.Opened.{Opened}
-use Rattle.node_seats.specs.declared.opened.Opened.TheVariants as kept
-use Rattle.node_seats.specs.Numbers.{Numbers, opened_at}
+use Rattle.node_seats.specs.Numbers.{Numbers, Opened, opened_at}
 use Rattle.node_seats.specs.AreSeats.{IsDone, IsOpened, AreSeats, AreWorked}
 use Rattle.node_seats.specs.declared.turning.Delivery.{Delivery}
 use Rattle.node_seats.specs.declared.turning.Wanted.{Wanted}
@@ -102,12 +100,12 @@ turn-found turn note past v new w a f t =
 
     by-kept : (c : ℕ) (p : Opened) (o : Option Opened) → opened_at c v ≡ o → TurnsOne (By c) o (opened_at c new) → opened_at c new ≡ Some p → IsOpened c (Step.Deliver turn note ∷ past) p
     by-kept c p None was one at = absurd (let e : None ≡ Some p = sym one ∙ at in cc)
-    by-kept c p (Some kept.Over) was one at =
-        subst (IsOpened c (Step.Deliver turn note ∷ past)) (some-is kept.Over p (sym one ∙ at)) (done-found c turn note past f (a.each c kept.Over was))
-    by-kept c p (Some (kept.Live s)) was one at =
-        let h = a.each c (kept.Live s) was in
+    by-kept c p (Some Opened.Over) was one at =
+        subst (IsOpened c (Step.Deliver turn note ∷ past)) (some-is Opened.Over p (sym one ∙ at)) (done-found c turn note past f (a.each c Opened.Over was))
+    by-kept c p (Some (Opened.Live s)) was one at =
+        let h = a.each c (Opened.Live s) was in
         let pl = w c s.user h.0.user in
-        subst (IsOpened c (Step.Deliver turn note ∷ past)) (some-is (kept.Live one.0) p (sym one.2 ∙ at)) (
+        subst (IsOpened c (Step.Deliver turn note ∷ past)) (some-is (Opened.Live one.0) p (sym one.2 ∙ at)) (
           sits-found pl.0 c turn note past s one.0 pl.1 h.0 f one.1,
           ap (λ (x : Seated). x.over) one.1.now ∙ pieces-over (puts_of c note past) (record s { subs = taken_by (turn_mark c note past) s.subs }) ∙ h.1,
         )
@@ -126,18 +124,18 @@ turn-rooms past v new a r =
   where
     by-kept : (c : ℕ) (p : Opened) (o : Option Opened) → opened_at c v ≡ o → TurnsOne (λ s t. Becomes s t) o (opened_at c new) → opened_at c new ≡ Some p → IsOpened c past p
     by-kept c p None was one at = absurd (let e : None ≡ Some p = sym one ∙ at in cc)
-    by-kept c p (Some kept.Over) was one at = subst (IsOpened c past) (some-is kept.Over p (sym one ∙ at)) (a.each c kept.Over was)
-    by-kept c p (Some (kept.Live s)) was one at =
-        let h = a.each c (kept.Live s) was in
-        subst (IsOpened c past) (some-is (kept.Live one.0) p (sym one.2 ∙ at)) (sits-room c past s one.0 one.1 h.0, ap (λ (x : Seated). x.over) one.1.now ∙ h.1)
+    by-kept c p (Some Opened.Over) was one at = subst (IsOpened c past) (some-is Opened.Over p (sym one ∙ at)) (a.each c Opened.Over was)
+    by-kept c p (Some (Opened.Live s)) was one at =
+        let h = a.each c (Opened.Live s) was in
+        subst (IsOpened c past) (some-is (Opened.Live one.0) p (sym one.2 ∙ at)) (sits-room c past s one.0 one.1 h.0, ap (λ (x : Seated). x.over) one.1.now ∙ h.1)
 
 placed-seat : List Subscription → Seated → Seated
 placed-seat subs s = record s { subs = subs }
 
 -- room is made, then wants are placed, then pieces are put: the turn, where the wants are those that it takes and the pieces are its own
 pub turn-calls : (turns : ℕ → List Mark) (qs : ℕ → List Piece) (mark : RowId) (ws : List Wanted) (ds : List Delivery) (v a b new : Numbers)
-    → ((c : ℕ) (s : Seated) → opened_at c v ≡ Some (kept.Live s) → placed_each mark (pairs_by c ws) s.subs ≡ taken_by (turns c) s.subs)
-    → ((c : ℕ) (s : Seated) → opened_at c v ≡ Some (kept.Live s) → pieces_for c ds ≡ qs c)
+    → ((c : ℕ) (s : Seated) → opened_at c v ≡ Some (Opened.Live s) → placed_each mark (pairs_by c ws) s.subs ≡ taken_by (turns c) s.subs)
+    → ((c : ℕ) (s : Seated) → opened_at c v ≡ Some (Opened.Live s) → pieces_for c ds ≡ qs c)
     → Roomier v a → Places mark ws a b → Delivers ds b new → Turns (λ c s t. Becomes (with_turn (turns c) (qs c) s) t) v new
 unfolding placed-seat
 turn-calls turns qs mark ws ds v a b new takes puts rooms places delivers =
@@ -149,7 +147,7 @@ turn-calls turns qs mark ws ds v a b new takes puts rooms places delivers =
     Put_by : ℕ → Seated → Seated → Type 0
     Put_by c s t = Becomes (with_pieces (pieces_for c ds) s) t
 
-    live-one : (c : ℕ) (s x y z : Seated) → opened_at c v ≡ Some (kept.Live s) → Becomes s x → Placed_by c x y → Put_by c y z → Becomes (with_turn (turns c) (qs c) s) z
+    live-one : (c : ℕ) (s x y z : Seated) → opened_at c v ≡ Some (Opened.Live s) → Becomes s x → Placed_by c x y → Put_by c y z → Becomes (with_turn (turns c) (qs c) s) z
     live-one c s x y z at r p d =
         let subs : x.subs ≡ s.subs = ap (λ (w : Seated). w.subs) r.now in
         let marked : placed_each mark (pairs_by c ws) x.subs ≡ taken_by (turns c) s.subs = ap (placed_each mark (pairs_by c ws)) subs ∙ takes c s at in
@@ -164,10 +162,10 @@ turn-calls turns qs mark ws ds v a b new takes puts rooms places delivers =
     one c None p q r at x y z =
         let y' : q ≡ None = subst (λ (i : Option Opened). TurnsOne (Placed_by c) i q) x y in
         subst (λ (i : Option Opened). TurnsOne (Put_by c) i r) y' z
-    one c (Some kept.Over) p q r at x y z =
-        let y' : q ≡ Some kept.Over = subst (λ (i : Option Opened). TurnsOne (Placed_by c) i q) x y in
+    one c (Some Opened.Over) p q r at x y z =
+        let y' : q ≡ Some Opened.Over = subst (λ (i : Option Opened). TurnsOne (Placed_by c) i q) x y in
         subst (λ (i : Option Opened). TurnsOne (Put_by c) i r) y' z
-    one c (Some (kept.Live s)) p q r at x y z =
+    one c (Some (Opened.Live s)) p q r at x y z =
         let y' = subst (λ (i : Option Opened). TurnsOne (Placed_by c) i q) x.2 y in
         let z' = subst (λ (i : Option Opened). TurnsOne (Put_by c) i r) y'.2 z in
         (z'.0, live-one c s x.0 y'.0 z'.0 at x.1 y'.1 z'.1, z'.2)

@@ -20,9 +20,7 @@ use Rattle.conn_core.specs.Connections.{over_behind}
 use Rattle.conn_seat.specs.Seats.{Seated, Becomes, CanFinish, may_take_now, with_piece, with_first, with_taken, with_change}
 use Rattle.conn_seat.specs.Seated.{SeatOf}
 use Rattle.conn_seat.proofs.Sitting.{sits-room, sits-text, sits-gone, sits-take, sits-finish, sits-closing}
-use Rattle.node_seats.specs.declared.opened.Opened.{Opened}
-use Rattle.node_seats.specs.declared.opened.Opened.TheVariants as kept
-use Rattle.node_seats.specs.Numbers.{Numbers, Moves, Lives, Prepares, Finished, opened_at, with_opened}
+use Rattle.node_seats.specs.Numbers.{Numbers, Opened, Moves, Lives, Prepares, Finished, opened_at, with_opened}
 use Rattle.node_seats.specs.AreSeats.{IsDone, IsOpened, AreSeats, AreWorked, Leaves}
 use Rattle.node_seats.proofs.Onward.{leaves-other, moved}
 
@@ -42,38 +40,38 @@ apart-test c d apart = by-test (c == d) refl
 pub record Live (By : Seated → Seated → Type 0) (c : ℕ) (v new : Numbers) : Type 0 where
   pub old_seat : Seated
   pub new_seat : Seated
-  pub found : opened_at c v ≡ Some (kept.Live old_seat)
+  pub found : opened_at c v ≡ Some (Opened.Live old_seat)
   pub moved_by : By old_seat new_seat
-  pub now : new ≡ with_opened c (kept.Live new_seat) v
+  pub now : new ≡ with_opened c (Opened.Live new_seat) v
 
 pub live : (By : Seated → Seated → Type 0) (c : ℕ) (v new : Numbers) → Moves c (Lives By) v new → Live By c v new
 live By c v new m = by-kept m.kept m.found m.moved
   where
     by-kept : (k : Opened) → opened_at c v ≡ Some k → Lives By k m.became → Live By c v new
-    by-kept (kept.Live s) found l = record { old_seat = s; new_seat = l.0; found = found; moved_by = l.1; now = m.now ∙ ap (λ (o : Opened). with_opened c o v) l.2 }
-    by-kept kept.Over found l = absurd l
+    by-kept (Opened.Live s) found l = record { old_seat = s; new_seat = l.0; found = found; moved_by = l.1; now = m.now ∙ ap (λ (o : Opened). with_opened c o v) l.2 }
+    by-kept Opened.Over found l = absurd l
 
 -- an entry of one connection, which goes on standing for it
 goes-on : (c : ℕ) (e : Step) (past : List Step) (v new : Numbers) (s t : Seated) → opened (e ∷ past) ≡ opened past → ((d : ℕ) → (c ≡ d → ⊥) → Leaves d past (e ∷ past)) → AreSeats past v
-    → opened_at c v ≡ Some (kept.Live s) → new ≡ with_opened c (kept.Live t) v → SeatOf c (e ∷ past) t → t.over ≡ false → AreSeats (e ∷ past) new
+    → opened_at c v ≡ Some (Opened.Live s) → new ≡ with_opened c (Opened.Live t) v → SeatOf c (e ∷ past) t → t.over ≡ false → AreSeats (e ∷ past) new
 goes-on c e past v new s t same leaves a found now seated shut =
-    subst (AreSeats (e ∷ past)) (sym now) (moved c past (e ∷ past) v (kept.Live t) (kept.Live s) same leaves a found (seated, shut))
+    subst (AreSeats (e ∷ past)) (sym now) (moved c past (e ∷ past) v (Opened.Live t) (Opened.Live s) same leaves a found (seated, shut))
 
 -- ---- room
 
 pub rooms : (c : ℕ) (past : List Step) (v new : Numbers) → AreSeats past v → Moves c (Lives Becomes) v new → AreSeats past new
 rooms c past v new a m =
     let l = live Becomes c v new m in
-    let h = a.each c (kept.Live l.old_seat) l.found in
+    let h = a.each c (Opened.Live l.old_seat) l.found in
     subst (AreSeats past) (sym l.now)
-    (moved c past past v (kept.Live l.new_seat) (kept.Live l.old_seat) refl (λ d apart. record { user = refl; seated = refl; marked = refl }) a l.found
+    (moved c past past v (Opened.Live l.new_seat) (Opened.Live l.old_seat) refl (λ d apart. record { user = refl; seated = refl; marked = refl }) a l.found
     (sits-room c past l.old_seat l.new_seat l.moved_by h.0, ap (λ (x : Seated). x.over) l.moved_by.now ∙ h.1))
 
 -- room for the change of a plan
 pub prepares : (d : Change) (c : ℕ) (past : List Step) (v new : Numbers) → AreSeats past v → Moves c (Lives (Prepares d)) v new → AreSeats past new
 prepares d c past v new a m =
     let l = live (Prepares d) c v new m in
-    let h = a.each c (kept.Live l.old_seat) l.found in
+    let h = a.each c (Opened.Live l.old_seat) l.found in
     let k = h.0.shows in
     let seated : SeatOf c past (record l.old_seat { reserved = Some d }) = record {
       user = h.0.user;
@@ -90,7 +88,7 @@ prepares d c past v new a m =
       };
     } in
     subst (AreSeats past) (sym l.now)
-    (moved c past past v (kept.Live l.new_seat) (kept.Live l.old_seat) refl (λ n apart. record { user = refl; seated = refl; marked = refl }) a l.found
+    (moved c past past v (Opened.Live l.new_seat) (Opened.Live l.old_seat) refl (λ n apart. record { user = refl; seated = refl; marked = refl }) a l.found
     (subst (SeatOf c past) (sym l.moved_by.now) seated, ap (λ (x : Seated). x.over) l.moved_by.now ∙ h.1))
 
 -- ---- puts
@@ -109,7 +107,7 @@ pub texts : (c : ℕ) (text : List ℕ) (past : List Step) (v new : Numbers) →
     → Moves c (Lives (λ s t. Becomes (with_piece (piece.Cmd (command_of text)) s) t)) v new → AreSeats (Step.In c text ∷ past) new
 texts c text past v new w a m =
     let l = live (λ s t. Becomes (with_piece (piece.Cmd (command_of text)) s) t) c v new m in
-    let h = a.each c (kept.Live l.old_seat) l.found in
+    let h = a.each c (Opened.Live l.old_seat) l.found in
     let pl = w c l.old_seat.user h.0.user in
     goes-on c (Step.In c text) past v new l.old_seat l.new_seat refl (λ d apart. leaves-other d (Step.In c text) past (apart-test c d apart) refl) a l.found l.now
     (sits-text pl.0 c text past l.old_seat l.new_seat pl.1 h.0 l.moved_by) (put-over (piece.Cmd (command_of text)) l.old_seat l.new_seat l.moved_by h.1)
@@ -118,7 +116,7 @@ pub drops : (c : ℕ) (past : List Step) (v new : Numbers) → AreWorked past �
     → Moves c (Lives (λ s t. Becomes (with_piece piece.Gone s) t)) v new → AreSeats (Step.Drop c ∷ past) new
 drops c past v new w a m =
     let l = live (λ s t. Becomes (with_piece piece.Gone s) t) c v new m in
-    let h = a.each c (kept.Live l.old_seat) l.found in
+    let h = a.each c (Opened.Live l.old_seat) l.found in
     let pl = w c l.old_seat.user h.0.user in
     goes-on c (Step.Drop c) past v new l.old_seat l.new_seat refl (λ d apart. leaves-other d (Step.Drop c) past (apart-test c d apart) refl) a l.found l.now
     (sits-gone pl.0 c past l.old_seat l.new_seat pl.1 h.0 l.moved_by) (put-over piece.Gone l.old_seat l.new_seat l.moved_by h.1)
@@ -133,10 +131,10 @@ taken-over v may = ap (λ b. (cond b (with_first v.waiting v) v).over) may ∙ f
     first (p ∷ ps) = refl
 
 pub takes : (c : ℕ) (past : List Step) (v new : Numbers) → AreWorked past → AreSeats past v → Moves c (Lives (λ s t. Becomes (with_taken s) t)) v new
-    → ((s : Seated) → opened_at c v ≡ Some (kept.Live s) → may_take_now s ≡ true) → AreSeats (Step.Take c ∷ past) new
+    → ((s : Seated) → opened_at c v ≡ Some (Opened.Live s) → may_take_now s ≡ true) → AreSeats (Step.Take c ∷ past) new
 takes c past v new w a m may =
     let l = live (λ s t. Becomes (with_taken s) t) c v new m in
-    let h = a.each c (kept.Live l.old_seat) l.found in
+    let h = a.each c (Opened.Live l.old_seat) l.found in
     let pl = w c l.old_seat.user h.0.user in
     let t = may l.old_seat l.found in
     goes-on c (Step.Take c) past v new l.old_seat l.new_seat refl (λ d apart. leaves-other d (Step.Take c) past (apart-test c d apart) refl) a l.found l.now
@@ -144,11 +142,11 @@ takes c past v new w a m may =
 
 -- a take that takes nothing
 pub takes-none : (c : ℕ) (past : List Step) (v new : Numbers) → AreSeats past v → Moves c (Lives (λ s t. Becomes (with_taken s) t)) v new
-    → ((s : Seated) → opened_at c v ≡ Some (kept.Live s) → may_take_now s ≡ false) → AreSeats past new
+    → ((s : Seated) → opened_at c v ≡ Some (Opened.Live s) → may_take_now s ≡ false) → AreSeats past new
 takes-none c past v new a m may_not =
     let l = live (λ s t. Becomes (with_taken s) t) c v new m in
     let still : with_taken l.old_seat ≡ l.old_seat = ap (λ b. cond b (with_first l.old_seat.waiting l.old_seat) l.old_seat) (may_not l.old_seat l.found) in
-    rooms c past v new a (record { kept = kept.Live l.old_seat; became = kept.Live l.new_seat; found = l.found; moved = (l.new_seat, subst (λ (x : Seated). Becomes x l.new_seat) still l.moved_by, refl); now = l.now })
+    rooms c past v new a (record { kept = Opened.Live l.old_seat; became = Opened.Live l.new_seat; found = l.found; moved = (l.new_seat, subst (λ (x : Seated). Becomes x l.new_seat) still l.moved_by, refl); now = l.now })
 
 -- ---- finishes
 
@@ -176,26 +174,26 @@ is-done r pl c puts plan past s t aw out h shut b now over =
     }
 
 pub finishes : (r : Callbacks) (c : ℕ) (puts : List (Option RowId)) (plan : Plan) (past : List Step) (v new : Numbers) → AreWorked past → AreSeats past v → job_plan r c past ≡ Some plan
-    → ((s : Seated) → opened_at c v ≡ Some (kept.Live s) → CanFinish plan.change s) → Moves c (Finished plan.change) v new → AreSeats (Step.Finish c puts plan ∷ past) new
+    → ((s : Seated) → opened_at c v ≡ Some (Opened.Live s) → CanFinish plan.change s) → Moves c (Finished plan.change) v new → AreSeats (Step.Finish c puts plan ∷ past) new
 finishes r c puts plan past v new w a out can m = by-kept m.kept m.found m.moved
   where
     leaves : (d : ℕ) → (c ≡ d → ⊥) → Leaves d past (Step.Finish c puts plan ∷ past)
     leaves d apart = leaves-other d (Step.Finish c puts plan) past (apart-test c d apart) refl
 
-    by-over : (s t : Seated) (b : Bool) → t.over ≡ b → IsOpened c past (kept.Live s) → opened_at c v ≡ Some (kept.Live s) → Becomes (with_change plan.change s) t
-        → IsOpened c (Step.Finish c puts plan ∷ past) (cond b kept.Over (kept.Live t))
+    by-over : (s t : Seated) (b : Bool) → t.over ≡ b → IsOpened c past (Opened.Live s) → opened_at c v ≡ Some (Opened.Live s) → Becomes (with_change plan.change s) t
+        → IsOpened c (Step.Finish c puts plan ∷ past) (cond b Opened.Over (Opened.Live t))
     by-over s t b over h found by =
         let pl = w c s.user h.0.user in
         let now = sits-finish pl.0 r c puts plan past s t pl.1 out h.0 (can s found) by in
         by-bool b over pl.0 pl.1 now
       where
-        by-bool : (b : Bool) → t.over ≡ b → (pl : Planner) → AllWorked pl c past → SeatOf c (Step.Finish c puts plan ∷ past) t → IsOpened c (Step.Finish c puts plan ∷ past) (cond b kept.Over (kept.Live t))
+        by-bool : (b : Bool) → t.over ≡ b → (pl : Planner) → AllWorked pl c past → SeatOf c (Step.Finish c puts plan ∷ past) t → IsOpened c (Step.Finish c puts plan ∷ past) (cond b Opened.Over (Opened.Live t))
         by-bool true over pl aw now = is-done r pl c puts plan past s t aw out h.0 h.1 by now over
         by-bool false over pl aw now = (now, over)
 
     by-kept : (k : Opened) → opened_at c v ≡ Some k → Finished plan.change k m.became → AreSeats (Step.Finish c puts plan ∷ past) new
-    by-kept (kept.Live s) found f =
+    by-kept (Opened.Live s) found f =
         subst (AreSeats (Step.Finish c puts plan ∷ past)) (sym m.now)
-        (moved c past (Step.Finish c puts plan ∷ past) v m.became (kept.Live s) refl leaves a found
-        (subst (IsOpened c (Step.Finish c puts plan ∷ past)) (sym f.2) (by-over s f.0 f.0.over refl (a.each c (kept.Live s) found) found f.1)))
-    by-kept kept.Over found f = absurd f
+        (moved c past (Step.Finish c puts plan ∷ past) v m.became (Opened.Live s) refl leaves a found
+        (subst (IsOpened c (Step.Finish c puts plan ∷ past)) (sym f.2) (by-over s f.0 f.0.over refl (a.each c (Opened.Live s) found) found f.1)))
+    by-kept Opened.Over found f = absurd f

@@ -1,6 +1,7 @@
+pub mod Lookups
+pub mod Faces
 pub mod Moving
 pub mod Stopping
-pub mod Lookups
 pub mod Onward
 pub mod Counting
 pub mod Entries
@@ -8,3 +9,8 @@ pub mod Opening
 pub mod Composing
 pub mod Rooming
 pub mod Delivering
+pub mod Queueing
+pub mod QueueMaking
+pub mod QueueRooms
+pub mod OneQueue
+pub mod Shown

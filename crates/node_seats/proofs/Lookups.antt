@@ -9,8 +9,7 @@ use Rattle.std.specs.BTreeMap.{is_at, insert_entry}
 use Rattle.std.specs.Map.{lookup, set_value, keys_of}
 use Rattle.std.proofs.lemmas.Bool.Decides.{nat_tests}
 use Rattle.cable_model.specs.Possible.{inserted}
-use Rattle.node_seats.specs.declared.opened.Opened.{Opened}
-use Rattle.node_seats.specs.Numbers.{Numbers, opened_at, with_opened, with_new}
+use Rattle.node_seats.specs.Numbers.{Numbers, Opened, opened_at, with_new}
 
 -- ---- tests of numbers
 
@@ -31,8 +30,8 @@ at-one c d x apart at =
 
 -- ---- a number that was opened
 
-module _ (mine other : ℕ → Bool) (one : (x : ℕ) → mine x ≡ true → other x ≡ false) where
-  set-elsewhere : (o : Opened) (v : Numbers) → lookup other (set_value mine v o) ≡ lookup other v
+module _ {B : Type 0} (mine other : ℕ → Bool) (one : (x : ℕ) → mine x ≡ true → other x ≡ false) where
+  set-elsewhere : (o : B) (v : List (ℕ × B)) → lookup other (set_value mine v o) ≡ lookup other v
   set-elsewhere o [] = refl
   set-elsewhere o (e ∷ es) = by-test (mine e.0) refl (set-elsewhere o es)
     where
@@ -40,7 +39,7 @@ module _ (mine other : ℕ → Bool) (one : (x : ℕ) → mine x ≡ true → ot
       by-test true is ih = let f = one e.0 is in rw f refl
       by-test false is ih = ap (λ l. cond (other e.0) (Some e.1) l) ih
 
-set-there : (mine : ℕ → Bool) (o p : Opened) (v : Numbers) → lookup mine v ≡ Some p → lookup mine (set_value mine v o) ≡ Some o
+set-there : {B : Type 0} (mine : ℕ → Bool) (o p : B) (v : List (ℕ × B)) → lookup mine v ≡ Some p → lookup mine (set_value mine v o) ≡ Some o
 set-there mine o p [] at = absurd cc
 set-there mine o p (e ∷ es) at = by-test (mine e.0) refl at (set-there mine o p es)
   where
@@ -49,16 +48,18 @@ set-there mine o p (e ∷ es) at = by-test (mine e.0) refl at (set-there mine o 
     by-test true is found ih = rw is refl
     by-test false is found ih = rw is (ih found)
 
-pub found-elsewhere : (c d : ℕ) (o : Opened) (v : Numbers) → (c ≡ d → ⊥) → opened_at d (with_opened c o v) ≡ opened_at d v
+pub found-elsewhere : {B : Type 0} (c d : ℕ) (o : B) (v : List (ℕ × B)) → (c ≡ d → ⊥)
+    → lookup (is_at (nat_cmp d)) (set_value (is_at (nat_cmp c)) v o) ≡ lookup (is_at (nat_cmp d)) v
 found-elsewhere c d o v apart = set-elsewhere (is_at (nat_cmp c)) (is_at (nat_cmp d)) (λ x. at-one c d x apart) o v
 
-pub found-there : (c : ℕ) (o p : Opened) (v : Numbers) → opened_at c v ≡ Some p → opened_at c (with_opened c o v) ≡ Some o
+pub found-there : {B : Type 0} (c : ℕ) (o p : B) (v : List (ℕ × B)) → lookup (is_at (nat_cmp c)) v ≡ Some p
+    → lookup (is_at (nat_cmp c)) (set_value (is_at (nat_cmp c)) v o) ≡ Some o
 found-there c o p v at = set-there (is_at (nat_cmp c)) o p v at
 
 -- ---- a number more
 
-module _ (c : ℕ) (cmp : ℕ → ℕ → Ordering) (other : ℕ → Bool) where
-  insert-elsewhere : (o : Opened) → other c ≡ false → ((x : ℕ) → is_eq (cmp c x) ≡ true → other x ≡ false) → (v : Numbers) → lookup other (insert_entry cmp v c o) ≡ lookup other v
+module _ {B : Type 0} (c : ℕ) (cmp : ℕ → ℕ → Ordering) (other : ℕ → Bool) where
+  insert-elsewhere : (o : B) → other c ≡ false → ((x : ℕ) → is_eq (cmp c x) ≡ true → other x ≡ false) → (v : List (ℕ × B)) → lookup other (insert_entry cmp v c o) ≡ lookup other v
   insert-elsewhere o not_c one [] = rw not_c refl
   insert-elsewhere o not_c one (e ∷ es) = by-order (cmp c e.0) refl (insert-elsewhere o not_c one es)
     where
@@ -68,7 +69,7 @@ module _ (c : ℕ) (cmp : ℕ → ℕ → Ordering) (other : ℕ → Bool) where
       by-order order.Equal is ih = let f = one e.0 (ap is_eq is) in rw f refl
       by-order order.Greater is ih = ap (λ l. cond (other e.0) (Some e.1) l) ih
 
-  insert-there : (o : Opened) → other c ≡ true → ((x : ℕ) → other x ≡ is_eq (cmp c x)) → (v : Numbers) → lookup other (insert_entry cmp v c o) ≡ Some o
+  insert-there : (o : B) → other c ≡ true → ((x : ℕ) → other x ≡ is_eq (cmp c x)) → (v : List (ℕ × B)) → lookup other (insert_entry cmp v c o) ≡ Some o
   insert-there o is_c same [] = rw is_c refl
   insert-there o is_c same (e ∷ es) = by-order (cmp c e.0) refl (insert-there o is_c same es)
     where
@@ -78,10 +79,11 @@ module _ (c : ℕ) (cmp : ℕ → ℕ → Ordering) (other : ℕ → Bool) where
       by-order order.Equal is ih = let f : other e.0 ≡ true = same e.0 ∙ ap is_eq is in rw f refl
       by-order order.Greater is ih = let f : other e.0 ≡ false = same e.0 ∙ ap is_eq is in rw f ih
 
-pub new-there : (c : ℕ) (o : Opened) (v : Numbers) → opened_at c (with_new c o v) ≡ Some o
+pub new-there : {B : Type 0} (c : ℕ) (o : B) (v : List (ℕ × B)) → lookup (is_at (nat_cmp c)) (insert_entry nat_cmp v c o) ≡ Some o
 new-there c o v = insert-there c nat_cmp (is_at (nat_cmp c)) o (at-self c) (λ x. refl) v
 
-pub new-elsewhere : (c d : ℕ) (o : Opened) (v : Numbers) → (c ≡ d → ⊥) → opened_at d (with_new c o v) ≡ opened_at d v
+pub new-elsewhere : {B : Type 0} (c d : ℕ) (o : B) (v : List (ℕ × B)) → (c ≡ d → ⊥)
+    → lookup (is_at (nat_cmp d)) (insert_entry nat_cmp v c o) ≡ lookup (is_at (nat_cmp d)) v
 new-elsewhere c d o v apart = insert-elsewhere c nat_cmp (is_at (nat_cmp d)) o (at-one c d c apart (at-self c)) (λ x. at-one c d x apart) v
 
 below-is : (c d : ℕ) → nat_cmp c d ≡ order.Less → ltb d c ≡ false

@@ -1,40 +1,35 @@
 -- What a call on one number leaves of the others.
-use Rattle.std.proofs.Common.{◌≡◌, ℕ, ◌+◌, ◌-◌, Result, Ok, Err, Bool, true, false, cond, [], ◌∷◌, Option, Some, None, refl, sym, ap, subst, ◌∙◌, arith}
-use Rattle.std.specs.Prelude.{unwrap_or, option_map, IfOk, OnOk, OnErr}
+use Rattle.std.proofs.Common.{◌≡◌, ◌≤◌, ℕ, ◌+◌, ◌-◌, Result, Ok, Err, Bool, true, false, cond, [], ◌∷◌, Option, Some, None, refl, sym, ap, subst, ◌∙◌, arith}
+use Rattle.std.specs.Prelude.{unwrap_or, option_map, OnOk, OnErr}
 use Rattle.cable_base.specs.declared.faults.OutOfMemory.{OutOfMemory}
 use Rattle.cable_model.specs.declared.plans.Change.{Change}
-use Rattle.std.proofs.lemmas.Map.Steps.{set_value_same}
+use Rattle.std.proofs.lemmas.Map.{keys-set_value}
 use Rattle.std.specs.Ordering.{nat_cmp, match_ordering}
+use Rattle.std.specs.List.Sorted.{IsStrictlySortedBy}
 use Rattle.std.specs.declared.cmp.Ordering.{Ordering}
 use Rattle.std.specs.declared.cmp.Ordering.TheVariants as order
-use Rattle.std.specs.BTreeMap.{BTreeMap, WritesThrough, get_by, is_at, insert_entry}
-use Rattle.std.specs.Map.{lookup, set_value}
+use Rattle.std.specs.BTreeMap.{is_at, insert_entry}
+use Rattle.std.specs.Map.{lookup, set_value, keys_of}
 use Rattle.std.proofs.lemmas.Map.Entries.{sum_by-set_value, sum_by-insert_entry}
 use Rattle.std.specs.Cmp.{nat_cmp_total}
-use Rattle.node_seats.specs.declared.opened.Opened.{Opened}
-use Rattle.node_seats.specs.declared.opened.Opened.TheVariants as opened
-use Rattle.conn_seat.specs.Seats.{Seated}
-use Rattle.node_seats.specs.Numbers.{Numbers, Moves, Lives, opened_at, live_among, weight, with_new, Rising, NodeSeats, Finished, CanRestart, CanRestartAll}
+use Rattle.node_seats.specs.Numbers.{Numbers, Opened, Moves, opened_at, live_among, weight, with_new, Rising, Finished, CanRestart, CanRestartAll}
 use Rattle.node_seats.specs.Inside.{IsTidy}
+use Rattle.node_seats.proofs.Faces.{Written}
 
 -- what is written over what was found
-pub moves : (By : Opened → Opened → Type 0) (c : ℕ) (m n : BTreeMap ℕ Opened) (kept became : Opened) → get_by (nat_cmp c) m ≡ Some kept
-    → WritesThrough nat_cmp (nat_cmp c) m became n → By kept became → Moves c By m.entries n.entries
-moves By c m n kept became at written by = record { kept = kept; became = became; found = at; moved = by; now = written.0 }
+pub moves : (By : Opened → Opened → Type 0) (c : ℕ) (kept became : Opened) (v new : Numbers) → Written c kept became v new → By kept became → Moves c By v new
+moves By c kept became v new w by = record { kept = kept; became = became; found = w.found; moved = by; now = w.now }
 
-pub weights : (c : ℕ) (m n : BTreeMap ℕ Opened) (kept became : Opened) → get_by (nat_cmp c) m ≡ Some kept → WritesThrough nat_cmp (nat_cmp c) m became n
-    → live_among n.entries + weight kept ≡ live_among m.entries + weight became
-weights c m n kept became at written = ap (λ es. live_among es + weight kept) written.0 ∙ sum_by-set_value weight (is_at (nat_cmp c)) m.entries kept became at
+weights : (c : ℕ) (kept became : Opened) (v new : Numbers) → Written c kept became v new → live_among new + weight kept ≡ live_among v + weight became
+weights c kept became v new w = ap (λ es. live_among es + weight kept) w.now ∙ sum_by-set_value weight (is_at (nat_cmp c)) v kept became w.found
+
+rises : (c : ℕ) (kept became : Opened) (v new : Numbers) → Written c kept became v new → Rising v → Rising new
+rises c kept became v new w rising = subst (IsStrictlySortedBy nat_cmp) (sym (ap keys_of w.now ∙ keys-set_value (is_at (nat_cmp c)) v became)) rising
 
 -- ---- room
 
-opened-or : Opened → Option Opened → Opened
-opened-or kept None = kept
-opened-or kept (Some other) = other
-
 some-is : (kept other : Opened) → Some kept ≡ Some other → kept ≡ other
-unfolding opened-or
-some-is kept other e = ap (opened-or kept) e
+some-is kept other e = cc e
 
 room-at : (test : ℕ → Bool) (v : Numbers) (kept : Opened) → CanRestartAll v → lookup test v ≡ Some kept → CanRestart kept
 room-at test [] kept can at = absurd cc
@@ -56,33 +51,30 @@ room-new : (v : Numbers) (c : ℕ) (kept : Opened) → CanRestartAll v → CanRe
 room-new [] c kept can new = (new, can)
 room-new (e ∷ es) c kept can new = by-order (nat_cmp c e.0) (room-new es c kept can.1 new)
   where
-    by-order : (o : Ordering) → CanRestartAll (insert_entry nat_cmp es c kept) → CanRestartAll (match_ordering o ((c, kept) ∷ e ∷ es) ((e.0, kept) ∷ es) (e ∷ insert_entry nat_cmp es c kept))
+    by-order : (o : Ordering) → CanRestartAll (insert_entry nat_cmp es c kept)
+        → CanRestartAll (match_ordering o ((c, kept) ∷ e ∷ es) ((e.0, kept) ∷ es) (e ∷ insert_entry nat_cmp es c kept))
     by-order order.Less rest = (new, can)
     by-order order.Equal rest = (new, can.1)
     by-order order.Greater rest = (can.0, rest)
 
-pub room-of : (c : ℕ) (m : BTreeMap ℕ Opened) (kept : Opened) → get_by (nat_cmp c) m ≡ Some kept → CanRestartAll m.entries → CanRestart kept
-room-of c m kept at can = room-at (is_at (nat_cmp c)) m.entries kept can at
+pub room-of : (c : ℕ) (kept : Opened) (v : Numbers) → opened_at c v ≡ Some kept → CanRestartAll v → CanRestart kept
+room-of c kept v at can = room-at (is_at (nat_cmp c)) v kept can at
 
-roomy-with : (c : ℕ) (m n : BTreeMap ℕ Opened) (kept became : Opened) → get_by (nat_cmp c) m ≡ Some kept → WritesThrough nat_cmp (nat_cmp c) m became n
-    → (CanRestart kept → CanRestart became) → CanRestartAll m.entries → CanRestartAll n.entries
-roomy-with c m n kept became at written keeps can =
-    subst CanRestartAll (sym written.0) (room-with (is_at (nat_cmp c)) m.entries became can (keeps (room-of c m kept at can)))
+roomy-with : (c : ℕ) (kept became : Opened) (v new : Numbers) → Written c kept became v new → (CanRestart kept → CanRestart became) → CanRestartAll v
+    → CanRestartAll new
+roomy-with c kept became v new w keeps can =
+    subst CanRestartAll (sym w.now) (room-with (is_at (nat_cmp c)) v became can (keeps (room-of c kept v w.found can)))
 
 -- ---- all of what holds
 
-pub tidy : (c count : ℕ) (m n : BTreeMap ℕ Opened) (kept became : Opened) → get_by (nat_cmp c) m ≡ Some kept → WritesThrough nat_cmp (nat_cmp c) m became n
-    → weight became ≡ weight kept → (CanRestart kept → CanRestart became) → IsTidy m.entries count → IsTidy n.entries count
-tidy c count m n kept became at written same keeps is =
+pub tidy : (c count : ℕ) (kept became : Opened) (v new : Numbers) → Written c kept became v new → weight became ≡ weight kept
+    → (CanRestart kept → CanRestart became) → IsTidy v count → IsTidy new count
+tidy c count kept became v new w same keeps is =
     record {
-      rising = written.4;
-      counted = omega (arith, is.counted, weights c m n kept became at written, same);
-      roomy = roomy-with c m n kept became at written keeps is.roomy;
+      rising = rises c kept became v new w is.rising;
+      counted = omega (arith, is.counted, weights c kept became v new w, same);
+      roomy = roomy-with c kept became v new w keeps is.roomy;
     }
-
-pub lives-weight : (By : Seated → Seated → Type 0) (kept became : Opened) → Lives By kept became → weight became ≡ weight kept
-lives-weight By (opened.Live seat) became l = ap weight l.2
-lives-weight By opened.Over became l = absurd l
 
 -- a number more
 pub tidy-new : (c count more : ℕ) (kept : Opened) (v new : Numbers) → opened_at c v ≡ None → new ≡ with_new c kept v → Rising new → more ≡ count + weight kept
@@ -96,47 +88,33 @@ tidy-new c count more kept v new none is rising sum can tidy_is =
       roomy = subst CanRestartAll (sym is) (room-new v c kept tidy_is.roomy can);
     }
 
-pub tidy-refused : (c count : ℕ) (v new : Numbers) (result : Result (Unit {0}) OutOfMemory) → opened_at c v ≡ None → OnOk result (new ≡ with_new c opened.Over v)
-    → OnErr result (new ≡ v) → Rising new → IsTidy v count → IsTidy new count
-tidy-refused c count v new (Ok u) none is same rising tidy_is = tidy-new c count count opened.Over v new none is rising (omega arith) tt tidy_is
+pub tidy-refused : (c count : ℕ) (v new : Numbers) (result : Result (Unit {0}) OutOfMemory) → opened_at c v ≡ None
+    → OnOk result (new ≡ with_new c Opened.Over v) → OnErr result (new ≡ v) → Rising new → IsTidy v count → IsTidy new count
+tidy-refused c count v new (Ok u) none is same rising tidy_is = tidy-new c count count Opened.Over v new none is rising (omega arith) tt tidy_is
 tidy-refused c count v new (Err e) none is same rising tidy_is = rw same tidy_is
 
--- the number isn't found where the value says so
-pub not-found : (c : ℕ) (v : Numbers) (is : NodeSeats) → (record { entries = v }) ≡ is → opened_at c is.entries ≡ None → opened_at c v ≡ None
-not-found c v is e none = ap (λ (x : NodeSeats). opened_at c x.entries) e ∙ none
-
--- where nothing changed
-unchanged : (c : ℕ) (m n : BTreeMap ℕ Opened) (kept became : Opened) (is : NodeSeats) → (record { entries = m.entries }) ≡ is
-    → get_by (nat_cmp c) m ≡ Some kept → WritesThrough nat_cmp (nat_cmp c) m became n → became ≡ kept → (record { entries = n.entries }) ≡ is
-unchanged c m n kept became is view at written same =
-    ap (λ es. let x : NodeSeats = record { entries = es } in x) (written.0 ∙ set_value_same (is_at (nat_cmp c)) m.entries became (at ∙ ap (λ o. Some o) (sym same))) ∙ view
-
-pub same-again : {A : Type 0} (c : ℕ) (m n : BTreeMap ℕ Opened) (kept became : Opened) (result : Result A OutOfMemory) (is : NodeSeats) → (record { entries = m.entries }) ≡ is
-    → get_by (nat_cmp c) m ≡ Some kept → WritesThrough nat_cmp (nat_cmp c) m became n → OnErr result (became ≡ kept) → OnErr result ((record { entries = n.entries }) ≡ is)
-same-again c m n kept became (Ok a) is view at written same = same
-same-again c m n kept became (Err e) is view at written same = unchanged c m n kept became is view at written same
-
--- the same, where none was taken
-pub same-unless : {A : Type 0} (c : ℕ) (m n : BTreeMap ℕ Opened) (kept became : Opened) (result : Result (Option A) OutOfMemory) (is : NodeSeats) → (record { entries = m.entries }) ≡ is
-    → get_by (nat_cmp c) m ≡ Some kept → WritesThrough nat_cmp (nat_cmp c) m became n → IfOk result (λ t. t ≡ None → became ≡ kept)
-    → IfOk result (λ t. t ≡ None → (record { entries = n.entries }) ≡ is)
-same-unless c m n kept became (Ok t) is view at written same = λ none. unchanged c m n kept became is view at written (same none)
-same-unless c m n kept became (Err e) is view at written same = same
+-- ---- the end of a connection
 
 finished-weight : (change : Change) (kept became : Opened) → Finished change kept became → weight kept ≡ 1
-finished-weight change (opened.Live seat) became f = refl
-finished-weight change opened.Over became f = absurd f
+finished-weight change (Opened.Live seat) became f = refl
+finished-weight change Opened.Over became f = absurd f
 
-pub tidy-over : (change : Change) (c count : ℕ) (m n : BTreeMap ℕ Opened) (kept became : Opened) → get_by (nat_cmp c) m ≡ Some kept → WritesThrough nat_cmp (nat_cmp c) m became n
-    → Finished change kept became → weight became ≡ 0 → (CanRestart kept → CanRestart became) → IsTidy m.entries count → IsTidy n.entries (count - 1)
-tidy-over change c count m n kept became at written finished over keeps is =
+pub tidy-over : (change : Change) (c count : ℕ) (kept became : Opened) (v new : Numbers) → Written c kept became v new → Finished change kept became
+    → weight became ≡ 0 → (CanRestart kept → CanRestart became) → IsTidy v count → IsTidy new (count - 1)
+tidy-over change c count kept became v new w finished over keeps is =
     record {
-      rising = written.4;
-      counted = omega (arith, is.counted, weights c m n kept became at written, over, finished-weight change kept became finished);
-      roomy = roomy-with c m n kept became at written keeps is.roomy;
+      rising = rises c kept became v new w is.rising;
+      counted = omega (arith, is.counted, weights c kept became v new w, over, finished-weight change kept became finished);
+      roomy = roomy-with c kept became v new w keeps is.roomy;
     }
 
-pub tidy-finished : (change : Change) (c count : ℕ) (m n : BTreeMap ℕ Opened) (kept became : Opened) → get_by (nat_cmp c) m ≡ Some kept → WritesThrough nat_cmp (nat_cmp c) m became n
-    → Finished change kept became → weight became ≡ 1 → (CanRestart kept → CanRestart became) → IsTidy m.entries count → IsTidy n.entries count
-tidy-finished change c count m n kept became at written finished live keeps is =
-    tidy c count m n kept became at written (live ∙ sym (finished-weight change kept became finished)) keeps is
+-- it was counted
+pub was-counted : (change : Change) (c count : ℕ) (kept became : Opened) (v new : Numbers) → Written c kept became v new → Finished change kept became
+    → weight became ≡ 0 → IsTidy v count → 1 ≤ count
+was-counted change c count kept became v new w finished over is =
+    omega (arith, is.counted, weights c kept became v new w, over, finished-weight change kept became finished)
+
+pub tidy-finished : (change : Change) (c count : ℕ) (kept became : Opened) (v new : Numbers) → Written c kept became v new → Finished change kept became
+    → weight became ≡ 1 → (CanRestart kept → CanRestart became) → IsTidy v count → IsTidy new count
+tidy-finished change c count kept became v new w finished live keeps is =
+    tidy c count kept became v new w (live ∙ sym (finished-weight change kept became finished)) keeps is

@@ -18,9 +18,7 @@ use Rattle.cable_model.specs.Wants.{user_of, marks, mark_of, Mark}
 use Rattle.cable_model.specs.Pieces as model
 use Rattle.cable_model.specs.Journal.{is_of}
 use Rattle.conn_seat.specs.Seated.{Shows, is_of_all}
-use Rattle.node_seats.specs.declared.opened.Opened.{Opened}
-use Rattle.node_seats.specs.declared.opened.Opened.TheVariants as kept
-use Rattle.node_seats.specs.Numbers.{Numbers, opened_at, with_opened}
+use Rattle.node_seats.specs.Numbers.{Numbers, Opened, opened_at, with_opened}
 use Rattle.node_seats.specs.AreSeats.{IsOpened, AreSeats, Leaves}
 use Rattle.node_seats.proofs.Lookups.{at-is, at-self, found-there, found-elsewhere, any-same}
 
@@ -40,14 +38,14 @@ unused-is past v c a e = none-is (opened_at c v) (used-is past v c a ∙ e)
 -- ---- a connection of which the journal says the same
 
 pub leaves-it : (c : ℕ) (past now : List Step) (o : Opened) → Leaves c past now → IsOpened c past o → IsOpened c now o
-leaves-it c past now (kept.Live s) l h = (
+leaves-it c past now (Opened.Live s) l h = (
   record {
     user = l.user ∙ h.0.user;
     shows = subst (λ (ms : List Mark). Shows (λ w. mark_of w ms) (seat c now) s) (sym l.marked) (subst (λ (x : model.Seat). Shows (λ w. mark_of w (marks c past)) x s) (sym l.seated) h.0.shows);
   },
   h.1,
 )
-leaves-it c past now kept.Over l h =
+leaves-it c past now Opened.Over l h =
     record {
       live = ap (λ (o : Option (List ℕ)). is_some o && not (seat c now).conn.over) l.user ∙ ap (λ (x : model.Seat). is_some (user_of c past) && not x.conn.over) l.seated ∙ h.live;
       job = ap has_job l.seated ∙ h.job;

@@ -17,9 +17,7 @@ use Rattle.cable_model.proofs.Waiting.{put-closed}
 use Rattle.conn_seat.specs.Seats.{Seated, Becomes, vacant}
 use Rattle.conn_seat.specs.Seated.{SeatOf, Shows, marks_at}
 use Rattle.conn_seat.proofs.Sitting.{sits-restart}
-use Rattle.node_seats.specs.declared.opened.Opened.{Opened}
-use Rattle.node_seats.specs.declared.opened.Opened.TheVariants as kept
-use Rattle.node_seats.specs.Numbers.{Numbers, Rising, Restarts, Stops, opened_at, with_new}
+use Rattle.node_seats.specs.Numbers.{Numbers, Opened, Rising, Restarts, Stops, opened_at, with_new}
 use Rattle.node_seats.specs.AreSeats.{IsOpened, AreSeats, AreWorked, Leaves}
 use Rattle.node_seats.proofs.Lookups.{new-there, new-elsewhere, new-keys}
 use Rattle.node_seats.proofs.Onward.{leaves-it, leaves-other, some-is, unused-is}
@@ -57,15 +55,15 @@ opens c token user past v new o a free now rising mine =
     }
 
 pub opened-with : (c : ℕ) (token user : List ℕ) (past : List Step) (v new : Numbers) (s : Seated) → AreSeats past v → is_opened c past ≡ false → Becomes (vacant user) s
-    → new ≡ with_new c (kept.Live s) v → Rising new → AreSeats (Step.Open c token (Some user) ∷ past) new
+    → new ≡ with_new c (Opened.Live s) v → Rising new → AreSeats (Step.Open c token (Some user) ∷ past) new
 opened-with c token user past v new s a free b now rising =
-    opens c token (Some user) past v new (kept.Live s) a free now rising
+    opens c token (Some user) past v new (Opened.Live s) a free now rising
     (sits-open c token user past s (a.unopened c free) b, ap (λ (x : Seated). x.over) b.now)
 
-pub refused : (c : ℕ) (token : List ℕ) (past : List Step) (v new : Numbers) → AreSeats past v → is_opened c past ≡ false → new ≡ with_new c kept.Over v → Rising new
+pub refused : (c : ℕ) (token : List ℕ) (past : List Step) (v new : Numbers) → AreSeats past v → is_opened c past ≡ false → new ≡ with_new c Opened.Over v → Rising new
     → AreSeats (Step.Open c token None ∷ past) new
 refused c token past v new a free now rising =
-    opens c token None past v new kept.Over a free now rising
+    opens c token None past v new Opened.Over a free now rising
     (record {
       live = ap (λ b. is_some (cond b None (user_of c past)) && not (seat c past).conn.over) (self c);
       job = ap has_job (a.unopened c free);
@@ -117,7 +115,7 @@ stops past v new w a s =
     }
   where
     by-kept : (c : ℕ) (p o : Opened) → IsOpened c past o → Restarts o p → IsOpened c (Step.Stop ∷ past) p
-    by-kept c p (kept.Live x) h r =
+    by-kept c p (Opened.Live x) h r =
         let pl = w c x.user h.0.user in
         subst (IsOpened c (Step.Stop ∷ past)) (sym r.2) (sits-restart pl.0 c past x r.0 pl.1 h.0 r.1, put-over piece.Restart x r.0 r.1 h.1)
-    by-kept c p kept.Over h r = subst (IsOpened c (Step.Stop ∷ past)) (sym r) (leaves-it c past (Step.Stop ∷ past) kept.Over (stop-leaves c past h.closed) h)
+    by-kept c p Opened.Over h r = subst (IsOpened c (Step.Stop ∷ past)) (sym r) (leaves-it c past (Step.Stop ∷ past) Opened.Over (stop-leaves c past h.closed) h)

@@ -11,11 +11,9 @@ use Rattle.cable_base.specs.declared.numbers.RowId.{RowId}
 use Rattle.cable_model.specs.declared.pieces.Piece.{Piece}
 use Rattle.conn_seat.specs.Seats.{Seated, Becomes, with_piece}
 use Rattle.conn_seat.specs.Turns.{with_pieces, placed_each}
-use Rattle.node_seats.specs.declared.opened.Opened.{Opened}
-use Rattle.node_seats.specs.declared.opened.Opened.TheVariants as opened
 use Rattle.node_seats.specs.declared.turning.Delivery.{Delivery}
 use Rattle.node_seats.specs.declared.turning.Wanted.{Wanted}
-use Rattle.node_seats.specs.Numbers.{Numbers, Moves, Lives, Widens, opened_at, seat_at, seat_in, HasRoomAt, HasRoomIn}
+use Rattle.node_seats.specs.Numbers.{Numbers, Opened, Moves, Lives, Widens, opened_at, seat_at, seat_in, HasRoomAt, HasRoomIn}
 use Rattle.node_seats.specs.Turned.{TurnsOne, Roomier, Delivers, Places, pairs_by, HasRoomFor, room_for, needed_in, one_more, or_none, pieces_for, is_for}
 use Rattle.node_seats.proofs.Composing.{pieces-own, pieces-other, pieces-for-more, delivers-on, rooms-none, rooms-on}
 use Rattle.node_seats.proofs.Entries.{live}
@@ -26,8 +24,8 @@ use Rattle.node_seats.proofs.Lookups.{found-there}
 -- a live connection spends no more than so many pieces of its room
 one-spends : (By : Seated → Seated → Type 0) (spent more : ℕ) (o p : Option Opened) → ((s t : Seated) → By s t → s.spare ≤ t.spare + spent) → TurnsOne By o p → HasRoomIn (more + spent) (seat_in o) → HasRoomIn more (seat_in p)
 one-spends By spent more None p few t room = subst (λ x. HasRoomIn more (seat_in x)) (sym t) tt
-one-spends By spent more (Some opened.Over) p few t room = subst (λ x. HasRoomIn more (seat_in x)) (sym t) tt
-one-spends By spent more (Some (opened.Live s)) p few t room = subst (λ x. HasRoomIn more (seat_in x)) (sym t.2) (let f = few s t.0 t.1 in omega (arith, f, room))
+one-spends By spent more (Some Opened.Over) p few t room = subst (λ x. HasRoomIn more (seat_in x)) (sym t) tt
+one-spends By spent more (Some (Opened.Live s)) p few t room = subst (λ x. HasRoomIn more (seat_in x)) (sym t.2) (let f = few s t.0 t.1 in omega (arith, f, room))
 
 pub room-kept : (c more : ℕ) (v new : Numbers) → Roomier v new → HasRoomAt c more v → HasRoomAt c more new
 room-kept c more v new r room =
@@ -56,7 +54,7 @@ at-least c few more v less room = by-seat (seat_at c v) room
 pub room-made : (c more : ℕ) (v new : Numbers) → Moves c (Lives (Widens more)) v new → HasRoomAt c more new
 room-made c more v new m =
     let l = live (Widens more) c v new m in
-    subst (λ (o : Option Opened). HasRoomIn more (seat_in o)) (sym (ap (opened_at c) l.now ∙ found-there c (opened.Live l.new_seat) (opened.Live l.old_seat) v l.found)) l.moved_by.room
+    subst (λ (o : Option Opened). HasRoomIn more (seat_in o)) (sym (ap (opened_at c) l.now ∙ found-there c (Opened.Live l.new_seat) (Opened.Live l.old_seat) v l.found)) l.moved_by.room
 
 -- ---- the pieces of a turn
 

@@ -1,18 +1,18 @@
 -- What a stop makes of each number.
-use Rattle.std.proofs.Common.{◌≡◌, ℕ, ◌+◌, ◌-◌, ◌++◌, Bool, true, false, cond, [], ◌∷◌, refl, sym, ap, ◌∙◌, arith, subst}
+use Rattle.std.proofs.Common.{◌≡◌, ℕ, ◌+◌, ◌-◌, ◌++◌, Bool, true, false, cond, List, [], ◌∷◌, refl, sym, ap, ◌∙◌, arith, subst}
 use Rattle.std.specs.Map.{values_of}
 use Rattle.std.proofs.lemmas.List.Sums.{sum_by-cons}
 use Rattle.std.specs.Map.Calls.{RetainsPairs}
 use Rattle.cable_model.specs.declared.pieces.Piece.TheVariants as piece
 use Rattle.conn_seat.specs.Seats.{Seated, with_piece}
-use Rattle.node_seats.specs.declared.opened.Opened.{Opened}
-use Rattle.node_seats.specs.declared.opened.Opened.TheVariants as opened
-use Rattle.node_seats.specs.Numbers.{Numbers, CanRestart, CanRestartAll, Restarts, Stops, Rising, live_among, weight}
+use Rattle.node_seats.specs.Numbers.{Numbers, Opened, CanRestart, CanRestartAll, Restarts, Stops, Rising, live_among, weight}
+use Rattle.node_seats.specs.declared.slots.Slot.{Slot}
+use Rattle.node_seats.specs.Slots.{numbers_of, opened_of, outbox_of, outboxes_of}
 use Rattle.node_seats.specs.Inside.{IsTidy}
 
 restarts-weight : (kept became : Opened) → Restarts kept became → weight became ≡ weight kept
-restarts-weight (opened.Live seat) became r = ap weight r.2
-restarts-weight opened.Over became r = ap weight r
+restarts-weight (Opened.Live seat) became r = ap weight r.2
+restarts-weight Opened.Over became r = ap weight r
 
 live-more : (n : ℕ) (kept : Opened) (v : Numbers) → live_among ((n, kept) ∷ v) ≡ weight kept + live_among v
 live-more n kept v = sum_by-cons weight kept (values_of v)
@@ -30,9 +30,9 @@ shut v = by-closing v.closing refl
     by-closing false e = refl
 
 closed : (kept became : Opened) → CanRestart kept → Restarts kept became → CanRestart became
-closed (opened.Live seat) became can r =
+closed (Opened.Live seat) became can r =
     subst CanRestart (sym r.2) (λ unshut. absurd (let e : true ≡ false = sym (shut seat) ∙ sym (ap (λ (x : Seated). x.closing) r.1.now) ∙ unshut in cc))
-closed opened.Over became can r = subst CanRestart (sym r) tt
+closed Opened.Over became can r = subst CanRestart (sym r) tt
 
 stops-roomy : (v new : Numbers) → CanRestartAll v → Stops v new → CanRestartAll new
 stops-roomy [] new can s = subst CanRestartAll (sym s) can
@@ -41,16 +41,17 @@ stops-roomy (e ∷ es) new can s = subst CanRestartAll (sym s.4) (closed e.1 s.0
 pub tidy-stopped : (count : ℕ) (v new : Numbers) → Stops v new → Rising new → IsTidy v count → IsTidy new count
 tidy-stopped count v new s rising is = record { rising = rising; counted = is.counted ∙ sym (stops-weight v new s); roomy = stops-roomy v new is.roomy s }
 
--- a call on each number, where each call is a stop's
-pub stops-from : {F : Type 0} (T : F → ℕ → Opened → Bool → Opened → F → Type 0) (f : F)
-    → ((n : ℕ) (kept : Opened) (b : Bool) (became : Opened) (f' : F) → T f n kept b became f' → (b ≡ true) × (CanRestart kept → Restarts kept became) × (f' ≡ f))
-    → (v new : Numbers) → CanRestartAll v → RetainsPairs T f v new → Stops v new
-stops-from T f each [] new can r = r
+-- a call on each slot, where each call is a stop's
+pub stops-from : {F : Type 0} (T : F → ℕ → Slot → Bool → Slot → F → Type 0) (f : F)
+    → ((n : ℕ) (kept : Slot) (b : Bool) (became : Slot) (f' : F) → T f n kept b became f'
+    → (b ≡ true) × (CanRestart (opened_of kept) → Restarts (opened_of kept) (opened_of became)) × (outbox_of became ≡ outbox_of kept) × (f' ≡ f))
+    → (v new : List (ℕ × Slot)) → CanRestartAll (numbers_of v) → RetainsPairs T f v new
+    → Stops (numbers_of v) (numbers_of new) × (outboxes_of new ≡ outboxes_of v)
+stops-from T f each [] new can r = (ap numbers_of r, ap outboxes_of r)
 stops-from {F} T f each (e ∷ es) new can r =
-    let h = each e.0 e.1 r.0 r.1 r.2 r.4 in (
-      r.1,
-      r.3,
-      h.1 can.0,
-      stops-from T f each es r.3 can.1 (subst (λ (g : F). RetainsPairs T g es r.3) h.2 r.5),
-      r.6 ∙ ap (λ b. cond b ((e.0, r.1) ∷ r.3) r.3) h.0,
+    let h = each e.0 e.1 r.0 r.1 r.2 r.4 in
+    let rest = stops-from T f each es r.3 can.1 (subst (λ (g : F). RetainsPairs T g es r.3) h.3 r.5) in
+    let now : new ≡ (e.0, r.1) ∷ r.3 = r.6 ∙ ap (λ b. cond b ((e.0, r.1) ∷ r.3) r.3) h.0 in (
+      (opened_of r.1, numbers_of r.3, h.1 can.0, rest.0, ap numbers_of now),
+      ap outboxes_of now ∙ ap (λ o. (e.0, o) ∷ outboxes_of r.3) h.2 ∙ ap (λ os. (e.0, outbox_of e.1) ∷ os) rest.1,
     )

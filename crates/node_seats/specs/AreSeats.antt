@@ -8,9 +8,7 @@ use Rattle.cable_model.specs.Promise.{AllWorked}
 use Rattle.cable_model.specs.Steps.{Step}
 use Rattle.cable_model.specs.Wants.{user_of, marks}
 use Rattle.conn_seat.specs.Seated.{SeatOf}
-use Rattle.node_seats.specs.declared.opened.Opened.{Opened}
-use Rattle.node_seats.specs.declared.opened.Opened.TheVariants as kept
-use Rattle.node_seats.specs.Numbers.{Numbers, Rising, opened_at}
+use Rattle.node_seats.specs.Numbers.{Numbers, Opened, Rising, opened_at}
 
 -- nothing can happen to the connection c any more
 pub record IsDone (c : ℕ) (past : List Step) : Type 0 where
@@ -21,8 +19,8 @@ pub record IsDone (c : ℕ) (past : List Step) : Type 0 where
 
 -- what is kept of the number c is what the journal says of it
 abbrev pub IsOpened : ℕ → List Step → Opened → Type 0
-IsOpened c past (kept.Live s) = SeatOf c past s × (s.over ≡ false)
-IsOpened c past kept.Over = IsDone c past
+IsOpened c past (Opened.Live s) = SeatOf c past s × (s.over ≡ false)
+IsOpened c past Opened.Over = IsDone c past
 
 pub record AreSeats (past : List Step) (v : Numbers) : Type 0 where
   pub numbers : keys_of v ≡ opened past

@@ -9,16 +9,22 @@ use Rattle.cable_base.specs.declared.numbers.ConnNo.{ConnNo}
 use Rattle.cable_model.specs.declared.plans.Change.{Change}
 use Rattle.cable_model.specs.declared.pieces.Piece.TheVariants as piece
 use Rattle.cable_model.specs.Wants.{makes}
+use Rattle.node_seats.specs.Outboxes.{OutboxesState}
 use Rattle.conn_seat.specs.Seats.{Seated, Becomes, is_receiving_now, may_take_now, with_piece, with_change}
-use Rattle.node_seats.specs.declared.opened.Opened.{Opened}
-use Rattle.node_seats.specs.declared.opened.Opened.TheVariants as opened
+
+-- what is kept of a number that was opened: its connection while it is live
+pub data Opened : Type 0 where
+  Live : (seat : Seated) → Opened
+  Over : Opened
 
 -- the numbers that were opened, each with what is kept of it
 abbrev pub Numbers : Type 0
 Numbers = List (ℕ × Opened)
 
+-- .. and what is queued on each
 pub record NodeSeats : Type 0 where
   pub entries : Numbers
+  pub outs : OutboxesState
 
 -- what is kept of the number, where it was opened
 abbrev pub opened_at : ℕ → Numbers → Option Opened
@@ -26,8 +32,8 @@ opened_at c v = lookup (is_at (nat_cmp c)) v
 
 abbrev pub seat_in : Option Opened → Option Seated
 seat_in None = None
-seat_in (Some (opened.Live seat)) = Some seat
-seat_in (Some opened.Over) = None
+seat_in (Some (Opened.Live seat)) = Some seat
+seat_in (Some Opened.Over) = None
 
 -- the connection of this number, where it is live
 abbrev pub seat_at : ℕ → Numbers → Option Seated
@@ -35,8 +41,8 @@ seat_at c v = seat_in (opened_at c v)
 
 abbrev pub is_over_in : Option Opened → Bool
 is_over_in None = false
-is_over_in (Some (opened.Live seat)) = false
-is_over_in (Some opened.Over) = true
+is_over_in (Some (Opened.Live seat)) = false
+is_over_in (Some Opened.Over) = true
 
 -- the number was opened and is no longer live
 abbrev pub is_over_at : ℕ → Numbers → Bool
@@ -52,8 +58,8 @@ may_take_at c v = may_take_in (seat_at c v)
 
 -- how many live connections it is
 abbrev pub weight : Opened → ℕ
-weight (opened.Live seat) = 1
-weight opened.Over = 0
+weight (Opened.Live seat) = 1
+weight Opened.Over = 0
 
 abbrev pub live_among : Numbers → ℕ
 live_among v = sum_by weight (values_of v)
@@ -63,8 +69,8 @@ abbrev pub Rising : Numbers → Type 0
 Rising v = IsStrictlySortedBy nat_cmp (keys_of v)
 
 abbrev pub is_receiving_in : Opened → Bool
-is_receiving_in (opened.Live seat) = is_receiving_now seat
-is_receiving_in opened.Over = false
+is_receiving_in (Opened.Live seat) = is_receiving_now seat
+is_receiving_in Opened.Over = false
 
 -- the numbers of those that are live and not closing
 abbrev pub receiving_among : Numbers → List ConnNo
@@ -91,8 +97,8 @@ pub record Moves (c : ℕ) (By : Opened → Opened → Type 0) (v new : Numbers)
 
 -- a live connection becomes another one by this relation
 abbrev pub Lives : (Seated → Seated → Type 0) → Opened → Opened → Type 0
-Lives By (opened.Live seat) o = (became : Seated) × By seat became × (o ≡ opened.Live became)
-Lives By opened.Over o = ⊥
+Lives By (Opened.Live seat) o = (became : Seated) × By seat became × (o ≡ Opened.Live became)
+Lives By Opened.Over o = ⊥
 
 -- the live connection of this number has room for so many more pieces, a closing one among them
 abbrev pub HasRoomIn : ℕ → Option Seated → Type 0
@@ -113,25 +119,25 @@ pub record Prepares (change : Change) (v new : Seated) : Type 0 where
   pub numbers : new.made + makes change < 2 ^ 64 - 1
 
 abbrev pub opened_with : Seated → Opened
-opened_with seat = cond seat.over opened.Over (opened.Live seat)
+opened_with seat = cond seat.over Opened.Over (Opened.Live seat)
 
 -- the change of the job's plan is made. A connection that it ends is over
 abbrev pub Finished : Change → Opened → Opened → Type 0
-Finished change (opened.Live seat) o = (became : Seated) × Becomes (with_change change seat) became × (o ≡ opened_with became)
-Finished change opened.Over o = ⊥
+Finished change (Opened.Live seat) o = (became : Seated) × Becomes (with_change change seat) became × (o ≡ opened_with became)
+Finished change Opened.Over o = ⊥
 
 -- there is room for a closing piece, where none was put
 abbrev pub CanRestart : Opened → Type 0
-CanRestart (opened.Live seat) = seat.closing ≡ false → 0 < seat.spare
-CanRestart opened.Over = ⊤
+CanRestart (Opened.Live seat) = seat.closing ≡ false → 0 < seat.spare
+CanRestart Opened.Over = ⊤
 
 abbrev pub CanRestartAll : Numbers → Type 0
 CanRestartAll v = AllByRecursion (λ (e : ℕ × Opened). CanRestart e.1) v
 
 -- a stop puts its piece on a live connection, which passes it over where it is closing
 abbrev pub Restarts : Opened → Opened → Type 0
-Restarts (opened.Live seat) o = (became : Seated) × Becomes (with_piece piece.Restart seat) became × (o ≡ opened.Live became)
-Restarts opened.Over o = o ≡ opened.Over
+Restarts (Opened.Live seat) o = (became : Seated) × Becomes (with_piece piece.Restart seat) became × (o ≡ Opened.Live became)
+Restarts Opened.Over o = o ≡ Opened.Over
 
 -- so on each
 abbrev pub Stops : Numbers → Numbers → Type 0

@@ -1,19 +1,18 @@
 -- What a turn makes of the connections of a node: room for its pieces, the pieces, and the marks of the wants that it takes.
-use Rattle.std.specs.Prelude.{◌≡◌, ◌==◌, ◌+◌, ℕ, Bool, List, [], ◌∷◌, filter, map, length, Option, None, Some}
+use Rattle.std.specs.Prelude.{◌≡◌, ◌==◌, ◌+◌, ℕ, Bool, List, [], ◌∷◌, cond, filter, map, length, Option, None, Some, option_map}
 use Rattle.std.specs.Map.{keys_of}
 use Rattle.cable_base.specs.declared.numbers.SubNo.{SubNo}
 use Rattle.cable_base.specs.declared.numbers.WantNo.{WantNo}
 use Rattle.cable_base.specs.declared.numbers.RowId.{RowId}
 use Rattle.cable_model.specs.declared.pieces.Piece.{Piece}
-use Rattle.cable_model.specs.declared.plans.Task.{Task}
-use Rattle.conn_seat.specs.Seats.{Seated, Becomes}
-use Rattle.conn_seat.specs.Tasks.{next_task_of}
+use Rattle.cable_model.specs.Pieces.{Placed}
+use Rattle.conn_seat.specs.Seats.{Seated, Becomes, may_take_now}
+use Rattle.conn_seat.specs.Tasks.{first_of, task_in}
 use Rattle.conn_seat.specs.Turns.{with_pieces, placed_each}
-use Rattle.node_seats.specs.declared.opened.Opened.{Opened}
-use Rattle.node_seats.specs.declared.opened.Opened.TheVariants as opened
+use Rattle.node_seats.specs.declared.slots.Errand.{Errand}
 use Rattle.node_seats.specs.declared.turning.Delivery.{Delivery}
 use Rattle.node_seats.specs.declared.turning.Wanted.{Wanted}
-use Rattle.node_seats.specs.Numbers.{Numbers, opened_at, seat_at, HasRoomAt}
+use Rattle.node_seats.specs.Numbers.{Numbers, Opened, opened_at, seat_at, HasRoomAt}
 
 -- ---- what a turn brings, by connection
 
@@ -43,8 +42,8 @@ pairs_by c ws = map pair_of (wanted_by c ws)
 -- what is kept of a number goes over by this relation, where it is a live connection, and else stays
 abbrev pub TurnsOne : (Seated → Seated → Type 0) → Option Opened → Option Opened → Type 0
 TurnsOne By None o = o ≡ None
-TurnsOne By (Some opened.Over) o = o ≡ Some opened.Over
-TurnsOne By (Some (opened.Live s)) o = (t : Seated) × By s t × (o ≡ Some (opened.Live t))
+TurnsOne By (Some Opened.Over) o = o ≡ Some Opened.Over
+TurnsOne By (Some (Opened.Live s)) o = (t : Seated) × By s t × (o ≡ Some (Opened.Live t))
 
 -- each live connection goes over by the relation of its number, and all else stays
 pub record Turns (By : ℕ → Seated → Seated → Type 0) (v new : Numbers) : Type 0 where
@@ -85,10 +84,16 @@ Delivers ds v new = Turns (λ c s t. Becomes (with_pieces (pieces_for c ds) s) t
 abbrev pub Places : RowId → List Wanted → Numbers → Numbers → Type 0
 Places mark ws v new = Turns (λ c s t. t ≡ record s { subs = placed_each mark (pairs_by c ws) s.subs }) v new
 
--- what the piece that a take would take from the connection c needs, if a take would take one
-abbrev pub next_task_in : Option Seated → Option Task
-next_task_in None = None
-next_task_in (Some s) = next_task_of s
+-- ---- what is taken
 
-abbrev pub next_task_at : ℕ → Numbers → Option Task
-next_task_at c v = next_task_in (seat_at c v)
+-- what its worker is told of a piece that is taken
+abbrev pub errand_of : Seated → Placed → Errand
+errand_of s p = record { place = p.place; user = s.user; task = task_in s p }
+
+-- .. of the piece that a take would take from the connection c, if a take would take one
+abbrev pub errand_in : Option Seated → Option Errand
+errand_in None = None
+errand_in (Some s) = cond (may_take_now s) (option_map (errand_of s) (first_of s.waiting)) None
+
+abbrev pub errand_at : ℕ → Numbers → Option Errand
+errand_at c v = errand_in (seat_at c v)

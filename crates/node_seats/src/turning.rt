@@ -56,6 +56,7 @@ impl Seats {
     fn reserve_live(&mut self, conn: ConnNo, more: u64) -> Result<(), OutOfMemory>
         ensures same { Roomier self.old.entries self.new.entries }
         ensures ok { OnOk result (HasRoomAt conn.0 more self.new.entries) }
+        ensures outs { self.new.outs ≡ self.old.outs }
     {
         if self.get(conn).is_none() {
             return Ok(());
@@ -67,6 +68,7 @@ impl Seats {
     fn reserve_needed(&mut self, needed: &BTreeMap<u64, u64>) -> Result<(), OutOfMemory>
         ensures same { Roomier self.old.entries self.new.entries }
         ensures ok { OnOk result ((c : ℕ) → HasRoomAt c (or_none (get nat_cmp needed.now c)) self.new.entries) }
+        ensures outs { self.new.outs ≡ self.old.outs }
     {
         for (number, more) in needed {
             self.reserve_live(ConnNo(*number), *more)?;
@@ -78,6 +80,7 @@ impl Seats {
     pub fn reserve_all(&mut self, alloc: Global, deliveries: &[Delivery]) -> Result<(), OutOfMemory>
         ensures same { Roomier self.old.entries self.new.entries }
         ensures ok { OnOk result (HasRoomFor deliveries.now self.new.entries) }
+        ensures outs { self.new.outs ≡ self.old.outs }
     {
         let needed = needed_for(alloc, deliveries)?;
         self.reserve_needed(&needed)
@@ -86,7 +89,8 @@ impl Seats {
     /// Puts a piece on its connection, where that is live.
     fn put_live(&mut self, delivery: Delivery)
         requires { HasRoomAt delivery.conn.0 2 self.old.entries }
-        ensures { Delivers (delivery ∷ []) self.old.entries self.new.entries }
+        ensures delivers { Delivers (delivery ∷ []) self.old.entries self.new.entries }
+        ensures outs { self.new.outs ≡ self.old.outs }
     {
         if self.get(delivery.conn).is_some() {
             let _ = self.put(delivery.conn, delivery.piece);
@@ -97,7 +101,8 @@ impl Seats {
     /// no memory.
     pub fn put_all(&mut self, deliveries: Vec<Delivery>)
         requires room { HasRoomFor deliveries.items self.old.entries }
-        ensures { Delivers deliveries.items self.old.entries self.new.entries }
+        ensures delivers { Delivers deliveries.items self.old.entries self.new.entries }
+        ensures outs { self.new.outs ≡ self.old.outs }
     {
         for delivery in deliveries {
             self.put_live(delivery);
@@ -106,7 +111,8 @@ impl Seats {
 
     /// Gives a want its mark, where its connection is live and it stands without one.
     fn place_live(&mut self, wanted: &Wanted, mark: RowId)
-        ensures { Places mark (wanted.now ∷ []) self.old.entries self.new.entries }
+        ensures places { Places mark (wanted.now ∷ []) self.old.entries self.new.entries }
+        ensures outs { self.new.outs ≡ self.old.outs }
     {
         if self.get(wanted.conn).is_some() {
             let _ = self.place(wanted.conn, wanted.sub, wanted.want, mark);
@@ -115,7 +121,8 @@ impl Seats {
 
     /// Gives these wants their mark, where they stand without one: from now on their streams are held. It takes no memory.
     pub fn place_all(&mut self, wants: &[Wanted], mark: RowId)
-        ensures { Places mark wants.now self.old.entries self.new.entries }
+        ensures places { Places mark wants.now self.old.entries self.new.entries }
+        ensures outs { self.new.outs ≡ self.old.outs }
     {
         for wanted in wants {
             self.place_live(wanted, mark);

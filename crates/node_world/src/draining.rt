@@ -9,8 +9,8 @@ ghost use Rattle.node_world.specs.Draining.{left_on};
 use crate::saying::Said;
 use cable_base::{ConnNo, Listed, OutOfMemory};
 use cable_model::Line;
+use conn_seat::Out;
 use node_core::Node;
-use node_outbox::Out;
 use std::alloc::Global;
 
 /// What was queued on a connection, as a line.
@@ -62,7 +62,8 @@ pub fn drain_each(alloc: Global, node: &mut Node, conns: &[ConnNo]) -> Result<Sa
     requires within { (c : ℕ) → taken_out c node.old ≤ length (queued c (past node.old)) }
     ensures kept { (node.new.kept ≡ node.old.kept) × (node.new.no ≡ node.old.no) }
     ensures lines { IfOk result (λ s. s ≡ record { idle = false; lines = flat_map (λ (c : ConnNo). left_on node.old c.0) conns.now }) }
-    ensures taken { IfOk result (λ _. (c : ℕ) → list_any (λ (d : ConnNo). d.0 == c) conns.now ≡ true → taken_out c node.new ≡ length (queued c (past node.old))) }
+    ensures taken { IfOk result (λ _. (c : ℕ) → list_any (λ (d : ConnNo). d.0 == c) conns.now ≡ true
+        → taken_out c node.new ≡ length (queued c (past node.old))) }
     ensures others { (c : ℕ) → list_any (λ (d : ConnNo). d.0 == c) conns.now ≡ false → taken_out c node.new ≡ taken_out c node.old }
 {
     let mut lines = Listed::empty(alloc);

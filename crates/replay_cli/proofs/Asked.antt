@@ -32,7 +32,7 @@ three_words : (a : Bool) (seed_word count_word : List ℕ) (seed count : ℕ) �
 three_words true seed_word count_word seed count e = made_count seed_word count_word seed count e
 three_words false seed_word count_word seed count e = absurd cc
 
--- a made script has from 1 to 1,000,000 lines that are drawn
+-- a made script has from 1 to `most_made` lines that are drawn
 pub asked_count : (words : List (List ℕ)) (seed count : ℕ) → order_of words ≡ Some (order.Make seed count) → IsCount count
 asked_count [] seed count e = absurd cc
 asked_count (word ∷ []) seed count e = absurd (one_word _ _ seed count e)

@@ -5,6 +5,7 @@ use Rattle.std.specs.List.{All}
 use Rattle.std.proofs.lemmas.List.Elements.{All-nil, All-cons}
 use Rattle.serde_json.specs.Read.{read}
 use Rattle.cable_base.specs.Squeeze.{squeezed, IsSqueezedJson}
+use Rattle.cable_model.specs.Limits.{last_moment}
 use Rattle.cable_model.specs.declared.events.Event.{Event}
 use Rattle.cable_model.specs.declared.events.Event.TheVariants as event
 use Rattle.cable_model.specs.declared.verbs.Verb.{Verb}
@@ -18,11 +19,11 @@ use Rattle.node_world.specs.Steps.{IsPlayed}
 abbrev pub Squeezes : Type 0
 Squeezes = (text : List ℕ) → IsSome (read text) → IsSqueezedJson (squeezed text)
 
-early-enough : (at : ℕ) → at ≤ 9007199254740991 → at < moment_limit
+early-enough : (at : ℕ) → at ≤ last_moment → at < moment_limit
 early-enough at early = omega (arith, early)
 
 -- the grammar of a cast keeps within the table's limits
-within : Squeezes → (channel json payload : List ℕ) (at : ℕ) → at ≤ 9007199254740991 → IsCast channel json payload → IsWithinLimits channel payload at
+within : Squeezes → (channel json payload : List ℕ) (at : ℕ) → at ≤ last_moment → IsCast channel json payload → IsWithinLimits channel payload at
 within squeezes channel json payload at early c =
     record {
       row = record { channel_len = c.short_name; payload_len = c.short_payload; message = subst IsSqueezedJson (sym c.squeezes) (squeezes json c.reads) };

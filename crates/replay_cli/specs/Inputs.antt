@@ -23,7 +23,7 @@ pub record WasNotRead (r : Reading) : Type 0 where
   pub ends : r.ends_behind ≡ r.ends
   pub faults : r.faults_behind ≡ r.faults
 
--- it gave these bytes, at most 2^40 of them
+-- it gave these bytes, at most `most_script` of them
 pub record GaveFew (r : Reading) (given : List ℕ) : Type 0 where
   pub gave : Gave r given
   pub few : length given ≤ most_script

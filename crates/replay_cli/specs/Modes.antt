@@ -7,6 +7,7 @@ use Rattle.cable_model.specs.Printed.{printed}
 use Rattle.cable_model.specs.Script.{Script, events_of, header, rules_of}
 use Rattle.cable_model.specs.Transcript.{ended, end_line, totals_line, said_text, end_text, totals_text}
 use Rattle.cable_script.specs.Words.{◌>>=◌, number_in}
+use Rattle.replay_cli.specs.declared.modes.TheConstants.{MOST_MADE}
 use Rattle.replay_cli.specs.declared.modes.Mode.{Mode}
 use Rattle.replay_cli.specs.declared.modes.Mode.TheVariants as mode
 use Rattle.replay_cli.specs.declared.modes.Order.{Order}
@@ -15,9 +16,9 @@ use Rattle.replay_cli.specs.declared.modes.Order.TheVariants as order
 -- ---- the four lists of words
 
 abbrev pub most_made : ℕ
-most_made = 1000000
+most_made = MOST_MADE
 
--- a seed below 2^64, and a count from 1 to 1,000,000
+-- a seed below 2^64, and a count from 1 to `most_made`
 unfoldable pub made_order : (seed count : List ℕ) → Option Order
 made_order seed count = do
   s ← number_in 0 (2 ^ 64 - 1) seed

@@ -58,7 +58,7 @@ abbrev pub PieceDoes : (m : Mode) → (given taken piece : List ℕ) → Writing
 PieceDoes m given taken piece w new (Ok u) = (more : List ℕ) × (Took w more × HasRead (given ++ piece) (taken ++ more) new)
 PieceDoes m given taken piece w new (Err s) = (more : List ℕ) × (Took w more × PieceRefused m (given ++ piece) (taken ++ more) w new s)
 
--- the source wasn't read to its end. A piece with which it would have given over 2^40 bytes isn't looked at
+-- the source wasn't read to its end. A piece with which it would have given over `most_script` bytes isn't looked at
 abbrev pub ReadRefused : (m : Mode) → Reading → Writing → (new : Replaying) → Status → Type 0
 ReadRefused m r w new status.WriteFault = (given taken : List ℕ) × (Gave r given × Took w taken × Rose w.faults w.faults_behind × WroteFront m given taken)
 ReadRefused m r w new status.OutOfMemory = (given taken : List ℕ) × (Gave r given × Took w taken × WroteFront m given taken)

@@ -84,7 +84,7 @@ ReadOutcome m (status.TooLong line) c = Refused m c (status.TooLong line)
 -- no line that was read breaks, and those that were whole were worked
 ReadOutcome m status.ReadFault c =
     (given : List ℕ) × (lines : GoodLines) × (GaveFew c.source given × IsUnbroken given lines × Rose c.source.faults c.source.faults_behind × Worked m lines c)
--- no line breaks before the piece with which the source gave over 2^40 bytes, and those that were whole before it were worked
+-- no line breaks before the piece with which the source gave over `most_script` bytes, and those that were whole before it were worked
 ReadOutcome m status.TooMuch c =
     (given piece : List ℕ) × (lines : GoodLines)
     × (Gave c.source (given ++ piece) × (length given ≤ most_script) × (most_script < length (given ++ piece)) × IsUnbroken given lines × Worked m lines c)
@@ -158,7 +158,7 @@ pub record NothingFailed (c : Call) : Type 0 where
   pub read : Rose c.source.faults c.source.faults_behind → ⊥
   pub wrote : Rose c.sink.faults c.sink.faults_behind → ⊥
 
--- the source tells its bytes, and they are at most 2^40
+-- the source tells its bytes, and they are at most `most_script`
 pub record Tells (c : Call) (all : List ℕ) : Type 0 where
   pub left : c.source.left ≡ Some all
   pub few : length all ≤ most_script

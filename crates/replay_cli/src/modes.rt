@@ -4,7 +4,7 @@ ghost use Rattle.replay_cli.specs.Modes.{made_order, word_order, order_of};
 use cable_script::number_in;
 
 /// The most lines that are drawn for a made script.
-const MOST_MADE: u64 = 1_000_000;
+pub const MOST_MADE: u64 = 1_000_000;
 
 /// What is written of a script.
 #[derive(Clone, Copy, Debug, PartialEq, Eq)]

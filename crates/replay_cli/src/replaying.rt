@@ -10,16 +10,10 @@ use crate::modes::Mode;
 use crate::outputs::write_all;
 use crate::printing::tail_text;
 use crate::stages::{Stage, Work, take_line};
-use cable_base::{Failed, Sink, Source, Trouble};
+use cable_base::{Failed, MOST_LINE, MOST_SCRIPT, Sink, Source, Trouble};
 use cable_model::{BreakReason, Status};
 use node_world::World;
 use std::alloc::Global;
-
-/// The most bytes that a script may have: 2^40.
-const MOST_BYTES: usize = 1 << 40;
-
-/// The most bytes of a line, without its line feed.
-const MOST_LINE_BYTES: usize = 1_200_000;
 
 /// How many bytes are asked for at a time, and at how many what is to be written goes out.
 const PIECE: usize = 65_536;
@@ -68,7 +62,7 @@ impl Replaying {
         requires { IsBegun self.old.line.items }
         ensures { Extends bytes.now self.old self.new result }
     {
-        if MOST_LINE_BYTES - self.line.len() < bytes.len() {
+        if MOST_LINE - self.line.len() < bytes.len() {
             return Err(Status::TooLong {
                 line: self.stage.next_number(),
             });
@@ -191,7 +185,7 @@ impl Replaying {
         let mut buffer = [0u8; PIECE];
         let mut given = 0;
         // Each turn but the last takes a byte or more.
-        for _ in 0..=MOST_BYTES {
+        for _ in 0..=MOST_SCRIPT {
             self.flush(sink)?;
             let count = match source.next_piece(&mut buffer) {
                 Ok(count) => count,
@@ -200,7 +194,7 @@ impl Replaying {
             if count == 0 {
                 return Ok(());
             }
-            if MOST_BYTES - given < count {
+            if MOST_SCRIPT - given < count {
                 return Err(Status::TooMuch);
             }
             given += count;

@@ -124,15 +124,15 @@ fn replay_read<S: Source, K: Sink>(
 /// say to the sink. What is written goes out in pieces of 64 KiB, before each read of the source, and at the end.
 ///
 /// The words are none; `--totals`, for a line of totals behind the transcript; `--print`, for the script again with a line for each event,
-/// where no event is run; or `--make` with a seed below 2^64 and a count from 1 to 1,000,000, for a made script of which the end line and the
-/// totals line alone are written, and for which the source isn't read.
+/// where no event is run; or `--make` with a seed below 2^64 and a count from 1 to `MOST_MADE`, for a made script of which the end line and
+/// the totals line alone are written, and for which the source isn't read.
 ///
 /// - `Ok`: the source was read to its end, its bytes are a script, and all is written. The world stands for its events.
 /// - `Usage`: the words are none of these. Nothing is read or written, and there is no world.
 /// - `BadScript`, `BadBook`, `TooLong`, `Unended`: this is the first break. What is to be written for the lines before it is written, without an
 ///   end line, and the world stands for their events; before a book is read there is none.
-/// - `ReadFault`, `TooMuch`: the source failed, or gave over 2^40 bytes. The same holds of the lines that were whole, where the piece that goes
-///   past 2^40 bytes isn't looked at.
+/// - `ReadFault`, `TooMuch`: the source failed, or gave over `MOST_SCRIPT` bytes. The same holds of the lines that were whole, where the piece that goes
+///   past them isn't looked at.
 /// - `WriteFault`, `OutOfMemory`: a beginning of what was to be written is written. Of the world nothing is said.
 ///
 /// With `--print` there is never a world.

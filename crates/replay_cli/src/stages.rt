@@ -188,7 +188,8 @@ fn take_further(
     out: &mut Vec<u8>,
 ) -> Result<(), Status>
     requires { IsBegun line.now }
-    ensures { (mode : Mode) (s : Script) → IsAt mode (Session s) (stages.Lines next.old work.old) → LineDoes mode (Session s) line.now (stages.Lines next.new work.new) out.old.items out.new.items result }
+    ensures { (mode : Mode) (s : Script) → IsAt mode (Session s) (stages.Lines next.old work.old)
+        → LineDoes mode (Session s) line.now (stages.Lines next.new work.new) out.old.items out.new.items result }
 {
     let behind = more(*next, 1)?;
     let events = line_events(alloc, *next, line)?;

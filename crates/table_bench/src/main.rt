@@ -2,10 +2,10 @@
 //! what each run came to on standard output, which is the same at each run, and the times on standard error.
 #![tactic(auto)]
 
-ghost use Rattle.std.specs.Prelude.{◌<◌, ◌≤◌, ◌^◌, IfOk};
+ghost use Rattle.std.specs.Prelude.{◌<◌, ◌≤◌, IfOk};
 ghost use Rattle.cable_base.specs.Squeeze.{IsSqueezedJson};
 
-use cable_base::{Millis, NodeNo, OutOfMemory, RowId, Text, squeeze};
+use cable_base::{MOMENT_LIMIT, MOST_PAYLOAD, Millis, NodeNo, OutOfMemory, RowId, Text, squeeze};
 use cable_model::Origin;
 use poll_turn::{Cursor, channel_hash};
 use serde_json::Value;
@@ -67,9 +67,9 @@ fn message(alloc: Global) -> Result<Text, Stop>
 
 fn commit(table: &mut Table<MemKeeper>, message: &str, at: u64) -> Result<(), Stop>
     requires message { IsSqueezedJson message.now }
-    requires moment { at < 2 ^ 53 }
+    requires moment { at < MOMENT_LIMIT }
 {
-    if message.len() > 1_048_576 {
+    if message.len() > MOST_PAYLOAD {
         return Err(Stop::Refused);
     }
     table.commit(Origin::Cast, "x", message, Millis(at))?;

@@ -1,11 +1,13 @@
 -- What a keeper of rows does: its rows, which of them a call gives or takes, and its counts.
-use Rattle.std.specs.Prelude.{◌≡◌, ◌<◌, ◌≤◌, ◌↔◌, ◌-◌, ◌^◌, ℕ, ℤ, max, not, Bool, true, false, ◌&&◌, ◌||◌, List, [], ◌∷◌, map, take, filter, Option, Some, IfSome, is_some, ltb}
+use Rattle.std.specs.Prelude.{◌≡◌, ◌<◌, ◌≤◌, ◌↔◌, ℕ, ℤ, max, not, Bool, true, false, ◌&&◌, ◌||◌, List, [], ◌∷◌, map, take, filter, Option, Some}
+use Rattle.std.specs.Prelude.{IfSome, is_some, ltb}
 use Rattle.std.specs.List.{All}
 use Rattle.std.specs.List.Sorted.{IsStrictlyIncreasing}
 use Rattle.cable_base.specs.Causes.{Rose}
 use Rattle.cable_base.specs.Hash.{channel_hash_of}
 use Rattle.cable_base.specs.Memory.{PlannedFailures, next_count, fails_next, after_call}
 use Rattle.cable_base.specs.Squeeze.{IsSqueezedJson}
+use Rattle.cable_base.specs.declared.limits.TheConstants.{MOST_ID, MOMENT_LIMIT}
 use Rattle.cable_base.specs.declared.rows.Row.{Row}
 use Rattle.cable_model.specs.Table.{contains, has_id}
 
@@ -22,11 +24,11 @@ greatest_id (r ∷ rows) = max r.id.0 (greatest_id rows)
 
 -- the greatest id that a row can have
 abbrev pub most_id : ℕ
-most_id = 2 ^ 63 - 1
+most_id = MOST_ID
 
 -- the first moment that is none
 abbrev pub moment_limit : ℕ
-moment_limit = 2 ^ 53
+moment_limit = MOMENT_LIMIT
 
 -- a row that can be put behind these, with the hash of its name
 pub record IsNewRow (told : Option (List Row)) (row : Row) (hash : ℤ) : Type 0 where

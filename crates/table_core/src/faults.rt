@@ -37,7 +37,7 @@ impl<T: Drop> From<AllocFailed<T>> for KeeperFault {
 pub enum StoreFault {
     /// The table's keeper failed. Its count of faults rose.
     Failed,
-    /// The last row has the greatest id, 2^63 - 1. Only a commit is refused so.
+    /// The last row has the greatest id, `MOST_ID`. Only a commit is refused so.
     IdsSpent,
     /// Memory was wanted and not to be had.
     OutOfMemory,

@@ -23,7 +23,7 @@ pub trait Keeper {
 
     ghost place: { Self → Self.Place };
 
-    /// The greatest id of the rows, or 0 where there is none. It is at most 2^63 - 1, and the ids rise.
+    /// The greatest id of the rows, or 0 where there is none. It is at most `MOST_ID`, and the ids rise.
     fn last_id(&mut self) -> Result<RowId, KeeperFault>
         ensures last { IfSome (rows self.old) (λ told. IfOk result (λ id. id.0 ≡ greatest_id told)) }
         ensures rising { IfSome (rows self.old) (λ told. OnOk result (AreRising told)) }
@@ -32,8 +32,8 @@ pub trait Keeper {
         ensures call { CallsOnce (IsOk result) (IsErrOf result keeper_fault.Failed) (counts self.old) (counts self.new) }
         ensures place { place self.new ≡ place self.old };
 
-    /// Puts a row behind the others. Its id is from 1 to 2^63 - 1 and above each id there, its moment is below 2^53, its payload is squeezed
-    /// JSON, and the hash is that of its name.
+    /// Puts a row behind the others. Its id is from 1 to `MOST_ID` and above each id there, its moment is below `MOMENT_LIMIT`, its payload
+    /// is squeezed JSON, and the hash is that of its name.
     fn insert(&mut self, row: &Row, hash: i64) -> Result<(), KeeperFault>
         requires { IsNewRow (rows self.old) row.now hash }
         ensures ok { IfSome (rows self.old) (λ told. OnOk result (rows self.new ≡ Some (told ++ row.now ∷ []))) }

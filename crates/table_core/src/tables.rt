@@ -15,17 +15,11 @@ ghost use Rattle.poll_turn.specs.Notes.{note_in};
 use crate::faults::{KeeperFault, StoreFault};
 use crate::keepers::Keeper;
 use crate::memory::MemKeeper;
-use cable_base::{Millis, Name, NodeNo, OutOfMemory, Row, RowId, Text};
+use cable_base::{MOST_ID, Millis, Name, NodeNo, OutOfMemory, PAGE_ROWS, Row, RowId, Text};
 use cable_model::Origin;
 use poll_turn::{Caught, Turn, channel_hash};
 use std::alloc::Global;
 use std::marker::Model;
-
-/// The greatest id that a row can have.
-const MOST_ID: u64 = (1 << 63) - 1;
-
-/// How many rows a read fetches at most.
-const PAGE_ROWS: u64 = 1_000;
 
 /// The table of all nodes. Its ids go on from the last one that its keeper had, each one above the one before, and it alone writes to
 /// its keeper.
@@ -129,10 +123,10 @@ impl<K: Keeper> Table<K> {
         &self.keeper
     }
 
-    /// Puts a row behind the others, under the next id. The limits are this profile's: a name of at most 1,024 bytes, a payload of squeezed
-    /// JSON of at most 1,048,576 bytes, and a moment below 2^53. It is refused as `IdsSpent` exactly where the last id is 2^63 - 1, and makes no
-    /// call of the keeper then, nor where memory is wanted for the row. Else it makes one call. After a refusal the rows and the last id
-    /// are as before.
+    /// Puts a row behind the others, under the next id. The limits are this profile's: a name of at most `MOST_NAME` bytes, a payload of
+    /// squeezed JSON of at most `MOST_PAYLOAD` bytes, and a moment below `MOMENT_LIMIT`. It is refused as `IdsSpent` exactly where the last id
+    /// is `MOST_ID`, and makes no call of the keeper then, nor where memory is wanted for the row. Else it makes one call. After a refusal the
+    /// rows and the last id are as before.
     pub fn commit(
         &mut self,
         from: Origin,

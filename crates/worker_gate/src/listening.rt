@@ -12,7 +12,8 @@ pub fn listen_once<E: Ears, S: Reads, L: Ledger>(
     store: &mut S,
     steps: &mut Steps<L>,
 ) -> Result<bool, OutOfMemory>
-    ensures { ListensOnce (record { asks = E.asks; delivers = E.delivers; reads = S.reads }) (record { ears = ears.old; store = store.old }) result (record { ears = ears.new; store = store.new }) }
+    ensures { ListensOnce (record { asks = E.asks; delivers = E.delivers; reads = S.reads }) (record { ears = ears.old; store = store.old }) result
+        (record { ears = ears.new; store = store.new }) }
 {
     let Some(turn) = ears.ask()? else {
         return Ok(false);

@@ -59,7 +59,8 @@ fn end_work<D: Desk, S: Store>(
 ) -> Result<(), OutOfMemory>
     requires none { work.puts ≡ [] }
     requires moment { at.0 < moment_limit }
-    ensures { EndsWork (record { takes = D.takes; finishes = D.finishes; commits = S.commits }) at.0 (record { desk = desk.old; store = store.old }) work result (record { desk = desk.new; store = store.new }) }
+    ensures { EndsWork (record { takes = D.takes; finishes = D.finishes; commits = S.commits }) at.0
+        (record { desk = desk.old; store = store.old }) work result (record { desk = desk.new; store = store.new }) }
 {
     let mut work = work;
     if let Err(refused) = commit_casts(&mut work, store, at) {
@@ -86,7 +87,8 @@ pub fn work_once<D: Desk, S: Store, C: Callbacks, G: Gate>(
     at: Millis,
 ) -> Result<bool, OutOfMemory>
     requires { at.0 < moment_limit }
-    ensures { WorksOnce (record { takes = D.takes; finishes = D.finishes; commits = S.commits }) (record { identify = C.user_of callbacks.now; subscribed = C.subscribed_of callbacks.now; unsubscribed = C.unsubscribed_of callbacks.now; perform = C.performed_of callbacks.now }) at.0 (record { desk = desk.old; store = store.old }) result (record { desk = desk.new; store = store.new }) }
+    ensures { WorksOnce (record { takes = D.takes; finishes = D.finishes; commits = S.commits }) (C.answers callbacks.now) at.0
+        (record { desk = desk.old; store = store.old }) result (record { desk = desk.new; store = store.new }) }
 {
     let Some(job) = desk.take_next()? else {
         return Ok(false);

@@ -6,7 +6,7 @@ ghost use Rattle.std.specs.Prelude.{◌≡◌, IfOk};
 ghost use Rattle.cable_base.specs.Squeeze.{IsSqueezedJson};
 ghost use Rattle.node_world.specs.Steps.{IsPlayed};
 
-use cable_base::{ConnNo, Millis, Name, NodeNo, OutOfMemory, Text, squeeze};
+use cable_base::{ConnNo, MOST_PAYLOAD, Millis, Name, NodeNo, OutOfMemory, Text, squeeze};
 use cable_model::Event;
 use channel_book::Book;
 use node_world::World;
@@ -151,7 +151,7 @@ fn cast(alloc: Global) -> Result<Event, Stop>
         Ok(_) => squeeze(alloc, text)?,
         Err(_) => return Err(Stop::Refused),
     };
-    if payload.as_str().len() > 1_048_576 {
+    if payload.as_str().len() > MOST_PAYLOAD {
         return Err(Stop::Refused);
     }
     Ok(Event::Cast {

@@ -15,8 +15,10 @@ invariant_of-self-2 c =
     let now = asked c.self.inside.no c.in_ok-hashes.hashes.items k c.ask-turn.new.self c.ask-turn.result unasked c.ask-turn.ensures in
     let number : c.turns-number.result ≡ k.turns + 1 = c.turns-number.ensures ∙ ap (λ (x : CursorState). x.turns) now.now in record {
       stands = rw (c.enter.ensures.entered, c.in_ok-reserve.ensures.kept, c.take_all.ensures.wanted, c.take_all.ensures.taken)
-          (asks c.turns-number.result c.ask-turn.new.self c.self.invariant.stands unasked number (now.now ∙ ap (λ (n : ℕ). record { lower = k.lower; turns = n; is_out = true }) (sym number)));
-      turn_room = room-left _ c.reserve.new.self c.enter.new.self c.in_ok-reserve.ensures.log c.in_ok-reserve.ensures.beside c.enter.ensures.log c.enter.ensures.beside;
+          (asks c.turns-number.result c.ask-turn.new.self c.self.invariant.stands unasked number
+          (now.now ∙ ap (λ (n : ℕ). record { lower = k.lower; turns = n; is_out = true }) (sym number)));
+      turn_room =
+          room-left _ c.reserve.new.self c.enter.new.self c.in_ok-reserve.ensures.log c.in_ok-reserve.ensures.beside c.enter.ensures.log c.enter.ensures.beside;
       ready = c.self.invariant.ready;
     }
 
@@ -25,13 +27,17 @@ returns-clause-turn c =
     let k = c.self.inside.cursor in
     let unasked = sym c.is_out.ensures ∙ c.if-is_out.false in
     let now = asked c.self.inside.no c.in_ok-hashes.hashes.items k c.ask-turn.new.self c.ask-turn.result unasked c.ask-turn.ensures in
-    let n : NodeState = record { no = c.self.inside.no; kept = c.self.inside.journal.kept; outs = c.self.inside.outboxes; ready = c.self.inside.ready.waiting } in
+    let self = c.self.inside in
+    let n : NodeState = record { no = self.no; kept = self.journal.kept; outs = self.seats.outs; ready = self.ready.waiting } in
     λ t e. subst (λ (m : NodeState). IsNextTurn t m) c.self.view_is
-    (next-turn n c.self.inside.seats.entries k c.self.inside.holders _ _ c.in_ok-hashes.hashes.items c.ask-turn.result t c.self.invariant.stands c.in_ok-hashes.ensures.hashes c.in_ok-hashes.ensures.held now.turn e)
+    (next-turn n self.seats.entries k self.holders _ _ c.in_ok-hashes.hashes.items c.ask-turn.result t c.self.invariant.stands
+    c.in_ok-hashes.ensures.hashes c.in_ok-hashes.ensures.held now.turn e)
 
 pub returns-clause-goes : goal.returns-clause-goes
 returns-clause-goes c =
-    rw (← c.self.view_is) (goes-on _ _ c.self.inside.seats.entries [] c.self.inside.ready.waiting (invariant_of-self-2 c).stands (λ d. refl) (λ d. refl) (λ d e. refl) c.self.invariant.ready refl (looks-none _ _ _ refl))
+    rw (← c.self.view_is)
+    (goes-on _ _ c.self.inside.seats.entries [] c.self.inside.ready.waiting (invariant_of-self-2 c).stands (λ d. refl) (λ d. refl) (λ d e. refl)
+    c.self.invariant.ready refl (looks-none _ _ _ refl))
 
 pub returns-then-is_out-clause-goes : goal.returns-then-is_out-clause-goes
 returns-then-is_out-clause-goes c = rw (← c.self.view_is) (goes-nowhere _ _ c.self.invariant.stands c.self.invariant.ready (search rules))

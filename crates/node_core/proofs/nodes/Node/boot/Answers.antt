@@ -4,7 +4,8 @@ use Rattle.node_core.proofs.nodes.Node.boot.Goals as goal
 
 pub invariant_of-result : goal.invariant_of-result
 invariant_of-result c = record {
-  stands = rw (c.in_ok-journal.ensures, c.empty.ensures, c.at.ensures, c.empty-3.ensures, c.empty-4.ensures.wanted, c.empty-4.ensures.taken) (boots c.args.last c.empty-2.result c.empty-2.ensures.nothing);
+  stands = rw (c.in_ok-journal.ensures, c.empty.ensures.none, c.at.ensures, c.empty-2.ensures, c.empty-3.ensures.wanted, c.empty-3.ensures.taken)
+      (boots c.args.last c.empty.result.outs c.empty.ensures.nothing);
   turn_room = no-turn _ c.args.last.0 c.in_ok-journal.journal c.in_ok-journal.ensures;
-  ready = rw (c.empty.ensures, c.empty-5.ensures) (λ d. refl);
+  ready = rw (c.empty.ensures.none, c.empty-4.ensures) (λ d. refl);
 }

@@ -3,8 +3,8 @@ use Rattle.std.specs.Prelude.{option_map, vec_capacity}
 use Rattle.cable_model.specs.Journal.{past_of}
 use Rattle.cable_model.specs.Wants.{makes}
 use Rattle.conn_seat.specs.Seats.{Seated}
-use Rattle.node_outbox.specs.declared.outs.Queued.{Queued}
-use Rattle.node_outbox.specs.Outboxes.{Queues}
+use Rattle.conn_seat.specs.declared.outs.Out.{Out}
+use Rattle.node_seats.specs.Outboxes.{Queues, all_on}
 use Rattle.node_seats.specs.Numbers.{seat_in}
 use Rattle.node_core.specs.Jobs.{Fits, WorkState}
 use Rattle.node_core.specs.Nodes.{NodeState}
@@ -15,71 +15,121 @@ use Rattle.node_core.proofs.nodes.Node.finish.Goals as goal
 
 pub make_room-requires : goal.make_room-requires
 make_room-requires c =
-    let n : NodeState = record { no = c.self.inside.no; kept = c.self.inside.journal.kept; outs = c.self.inside.outboxes; ready = c.self.inside.ready.waiting } in
-    let w : WorkState = record { node = c.work.inside.node; conn = c.work.inside.conn; place = c.work.inside.place; task = c.work.inside.task; plan = c.work.inside.plan; puts = c.work.inside.puts.items } in
+    let self = c.self.inside in
+    let n : NodeState = record { no = self.no; kept = self.journal.kept; outs = self.seats.outs; ready = self.ready.waiting } in
+    let work = c.work.inside in
+    let w : WorkState = record { node = work.node; conn = work.conn; place = work.place; task = work.task; plan = work.plan; puts = work.puts.items } in
     let f : Fits w n = rw (c.work.view_is, c.self.view_is) c.requires in
     record { live = live-out w.conn.0 w.place w.task _ c.self.inside.seats.entries c.self.invariant.stands.numbers (out-on w n f) }
 
 pub unreachable-requires : goal.unreachable-requires
 unreachable-requires c =
-    let n : NodeState = record { no = c.self.inside.no; kept = c.self.inside.journal.kept; outs = c.self.inside.outboxes; ready = c.self.inside.ready.waiting } in
-    let w : WorkState = record { node = c.work.inside.node; conn = c.work.inside.conn; place = c.work.inside.place; task = c.work.inside.task; plan = c.work.inside.plan; puts = c.work.inside.puts.items } in
+    let self = c.self.inside in
+    let n : NodeState = record { no = self.no; kept = self.journal.kept; outs = self.seats.outs; ready = self.ready.waiting } in
+    let work = c.work.inside in
+    let w : WorkState = record { node = work.node; conn = work.conn; place = work.place; task = work.task; plan = work.plan; puts = work.puts.items } in
     let f : Fits w n = rw (c.work.view_is, c.self.view_is) c.requires in
     let h = c.self.invariant.stands in
-    let planned = plan-out w.conn.0 w.place w.task w.plan w.puts (vec_capacity c.work.inside.puts) (past_of c.self.inside.journal.kept) c.self.inside.seats.entries c.work.invariant h.numbers (out-on w n f) in
-    let is = ready (ignoring c.work.invariant.callbacks c.work.invariant.user) w.conn.0 (past_of c.self.inside.journal.kept) w.plan c.self.inside.seats.entries c.make_room.new.seats.entries h.legal h.numbers planned c.in-Ok-make_room.ensures.prepares in
+    let capacity = vec_capacity work.puts in
+    let before = past_of self.journal.kept in
+    let v = self.seats.entries in
+    let v1 = c.make_room.new.seats.entries in
+    let prepares = c.in-Ok-make_room.ensures.prepares in
+    let planned = plan-out w.conn.0 w.place w.task w.plan w.puts capacity before v c.work.invariant h.numbers (out-on w n f) in
+    let answering = ignoring c.work.invariant.callbacks c.work.invariant.user in
+    let is = ready answering w.conn.0 before w.plan v v1 h.legal h.numbers planned prepares in
     let e : Some is.0 ≡ None = sym (ap seat_in is.1.at) ∙ (sym c.get.ensures ∙ ap (option_map (λ s. s.now)) c.in_default-get.is) in
     cc e
 
 pub put_change-requires-clause-numbers : goal.put_change-requires-clause-numbers
 put_change-requires-clause-numbers c =
-    let n : NodeState = record { no = c.self.inside.no; kept = c.self.inside.journal.kept; outs = c.self.inside.outboxes; ready = c.self.inside.ready.waiting } in
-    let w : WorkState = record { node = c.work.inside.node; conn = c.work.inside.conn; place = c.work.inside.place; task = c.work.inside.task; plan = c.work.inside.plan; puts = c.work.inside.puts.items } in
+    let self = c.self.inside in
+    let n : NodeState = record { no = self.no; kept = self.journal.kept; outs = self.seats.outs; ready = self.ready.waiting } in
+    let work = c.work.inside in
+    let w : WorkState = record { node = work.node; conn = work.conn; place = work.place; task = work.task; plan = work.plan; puts = work.puts.items } in
     let f : Fits w n = rw (c.work.view_is, c.self.view_is) c.requires in
     let h = c.self.invariant.stands in
-    let planned = plan-out w.conn.0 w.place w.task w.plan w.puts (vec_capacity c.work.inside.puts) (past_of c.self.inside.journal.kept) c.self.inside.seats.entries c.work.invariant h.numbers (out-on w n f) in
-    let is = ready (ignoring c.work.invariant.callbacks c.work.invariant.user) w.conn.0 (past_of c.self.inside.journal.kept) w.plan c.self.inside.seats.entries c.make_room.new.seats.entries h.legal h.numbers planned c.in-Ok-make_room.ensures.prepares in
+    let capacity = vec_capacity work.puts in
+    let before = past_of self.journal.kept in
+    let v = self.seats.entries in
+    let v1 = c.make_room.new.seats.entries in
+    let prepares = c.in-Ok-make_room.ensures.prepares in
+    let planned = plan-out w.conn.0 w.place w.task w.plan w.puts capacity before v c.work.invariant h.numbers (out-on w n f) in
+    let answering = ignoring c.work.invariant.callbacks c.work.invariant.user in
+    let is = ready answering w.conn.0 before w.plan v v1 h.legal h.numbers planned prepares in
     let e : Some c.in-Some.seat.now ≡ Some is.0 = c.in-Some.ensures ∙ ap seat_in is.1.at in
     let same : c.in-Some.seat.now ≡ is.0 = cc e in
     let few = subst (λ (s : Seated). s.made + makes w.plan.change < 2 ^ 64 - 1) (sym same) is.1.can.numbers in
     omega (arith, few)
 
-pub finish-requires : goal.finish-requires
-finish-requires c =
-    let n : NodeState = record { no = c.self.inside.no; kept = c.self.inside.journal.kept; outs = c.self.inside.outboxes; ready = c.self.inside.ready.waiting } in
-    let w : WorkState = record { node = c.work.inside.node; conn = c.work.inside.conn; place = c.work.inside.place; task = c.work.inside.task; plan = c.work.inside.plan; puts = c.work.inside.puts.items } in
+pub finish-requires-clause-can : goal.finish-requires-clause-can
+finish-requires-clause-can c =
+    let self = c.self.inside in
+    let n : NodeState = record { no = self.no; kept = self.journal.kept; outs = self.seats.outs; ready = self.ready.waiting } in
+    let work = c.work.inside in
+    let w : WorkState = record { node = work.node; conn = work.conn; place = work.place; task = work.task; plan = work.plan; puts = work.puts.items } in
     let f : Fits w n = rw (c.work.view_is, c.self.view_is) c.requires in
     let h = c.self.invariant.stands in
-    let planned = plan-out w.conn.0 w.place w.task w.plan w.puts (vec_capacity c.work.inside.puts) (past_of c.self.inside.journal.kept) c.self.inside.seats.entries c.work.invariant h.numbers (out-on w n f) in
-    let is = ready (ignoring c.work.invariant.callbacks c.work.invariant.user) w.conn.0 (past_of c.self.inside.journal.kept) w.plan c.self.inside.seats.entries c.make_room.new.seats.entries h.legal h.numbers planned c.in-Ok-make_room.ensures.prepares in
+    let capacity = vec_capacity work.puts in
+    let before = past_of self.journal.kept in
+    let v = self.seats.entries in
+    let v1 = c.make_room.new.seats.entries in
+    let prepares = c.in-Ok-make_room.ensures.prepares in
+    let planned = plan-out w.conn.0 w.place w.task w.plan w.puts capacity before v c.work.invariant h.numbers (out-on w n f) in
+    let answering = ignoring c.work.invariant.callbacks c.work.invariant.user in
+    let is = ready answering w.conn.0 before w.plan v v1 h.legal h.numbers planned prepares in
     (is.0, is.1.at, is.1.can)
 
 pub invariant_of-self-2 : goal.invariant_of-self-2
 invariant_of-self-2 c =
-    let n : NodeState = record { no = c.self.inside.no; kept = c.self.inside.journal.kept; outs = c.self.inside.outboxes; ready = c.self.inside.ready.waiting } in
-    let w : WorkState = record { node = c.work.inside.node; conn = c.work.inside.conn; place = c.work.inside.place; task = c.work.inside.task; plan = c.work.inside.plan; puts = c.work.inside.puts.items } in
+    let self = c.self.inside in
+    let n : NodeState = record { no = self.no; kept = self.journal.kept; outs = self.seats.outs; ready = self.ready.waiting } in
+    let work = c.work.inside in
+    let w : WorkState = record { node = work.node; conn = work.conn; place = work.place; task = work.task; plan = work.plan; puts = work.puts.items } in
     let f : Fits w n = rw (c.work.view_is, c.self.view_is) c.requires in
     let h = c.self.invariant.stands in
-    let planned = plan-out w.conn.0 w.place w.task w.plan w.puts (vec_capacity c.work.inside.puts) (past_of c.self.inside.journal.kept) c.self.inside.seats.entries c.work.invariant h.numbers (out-on w n f) in
-    let is = ready (ignoring c.work.invariant.callbacks c.work.invariant.user) w.conn.0 (past_of c.self.inside.journal.kept) w.plan c.self.inside.seats.entries c.make_room.new.seats.entries h.legal h.numbers planned c.in-Ok-make_room.ensures.prepares in
+    let capacity = vec_capacity work.puts in
+    let before = past_of self.journal.kept in
+    let v = self.seats.entries in
+    let v1 = c.make_room.new.seats.entries in
+    let prepares = c.in-Ok-make_room.ensures.prepares in
+    let planned = plan-out w.conn.0 w.place w.task w.plan w.puts capacity before v c.work.invariant h.numbers (out-on w n f) in
+    let answering = ignoring c.work.invariant.callbacks c.work.invariant.user in
+    let is = ready answering w.conn.0 before w.plan v v1 h.legal h.numbers planned prepares in
     let e : Some c.in-Some.seat.now ≡ Some is.0 = c.in-Some.ensures ∙ ap seat_in is.1.at in
     let same : c.in-Some.seat.now ≡ is.0 = cc e in
-    let at = subst (λ (s : Seated). Ready w.conn.0 (past_of c.self.inside.journal.kept) w.plan c.make_room.new.seats.entries s) (sym same) is.1 in
-    let said = subst (λ (qs : List Queued). Queues qs c.make_room.new.outboxes c.put_all.new.self) c.in-Ok-make_room.ensures.outs c.put_all.ensures in record {
-      stands = rw (c.enter.ensures.entered, c.in-Ok-make_room.ensures.kept, c.of-puts.ensures, c.release.ensures, c.put_change.ensures.wanted, c.put_change.ensures.taken, c.in-Ok-make_room.ensures.wanted, c.in-Ok-make_room.ensures.wanted_taken)
-          (finishes-as (ignoring c.work.invariant.callbacks c.work.invariant.user) w.conn w.place w.puts w.plan c.make_room.new.seats.entries c.finish.new.self.entries c.in-Some.seat.now c.make_room.new.outboxes c.put_all.new.self h f.out.place planned
-          (answered-out w.conn.0 w.place w.task w.plan w.puts (vec_capacity c.work.inside.puts) (past_of c.self.inside.journal.kept) c.work.invariant (out-on w n f)) f.done
-          c.in-Ok-make_room.ensures.prepares at c.finish.ensures c.in-Ok-make_room.ensures.queues said);
-      turn_room = room-left _ c.make_room.new.journal c.enter.new.self c.in-Ok-make_room.ensures.log_room c.in-Ok-make_room.ensures.beside_room c.enter.ensures.log c.enter.ensures.beside;
-      ready = still-ready c.self.inside.seats.entries c.finish.new.self.entries (w.conn ∷ []) _ _ _ (alike-finished w.conn w.plan.change _ c.make_room.new.seats.entries _ c.in-Ok-make_room.ensures.prepares c.finish.ensures) c.self.invariant.ready
-          c.reserve.ensures.same.waiting c.refresh.ensures.refreshes;
+    let at = subst (λ (s : Seated). Ready w.conn.0 before w.plan v1 s) (sym same) is.1 in
+    let outs = c.make_room.new.seats.outs in
+    let said = subst (λ (os : List Out). Queues (all_on w.conn os) outs c.finish.new.self.outs) c.in-Ok-make_room.ensures.outs c.finish.ensures.queues in
+    let answered = answered-out w.conn.0 w.place w.task w.plan w.puts capacity before c.work.invariant (out-on w n f) in record {
+      stands = rw (
+        c.enter.ensures.entered,
+        c.in-Ok-make_room.ensures.kept,
+        c.of-puts.ensures,
+        c.release.ensures,
+        c.put_change.ensures.wanted,
+        c.put_change.ensures.taken,
+        c.in-Ok-make_room.ensures.wanted,
+        c.in-Ok-make_room.ensures.wanted_taken,
+      )
+          (finishes-as answering w.conn w.place w.puts w.plan v1 c.finish.new.self.entries c.in-Some.seat.now outs c.finish.new.self.outs h f.out.place planned
+          answered f.done prepares at c.finish.ensures.made c.in-Ok-make_room.ensures.queues said);
+      turn_room = room-left _ c.make_room.new.journal c.enter.new.self
+          c.in-Ok-make_room.ensures.log_room c.in-Ok-make_room.ensures.beside_room c.enter.ensures.log c.enter.ensures.beside;
+      ready = still-ready v c.finish.new.self.entries (w.conn ∷ []) _ _ _ (alike-finished w.conn w.plan.change _ v1 _ prepares c.finish.ensures.made)
+          c.self.invariant.ready c.reserve.ensures.same.waiting c.refresh.ensures.refreshes;
     }
 
 pub returns-clause-goes : goal.returns-clause-goes
 returns-clause-goes c =
+    let queues = c.finish.ensures.queues in
+    let roomy = c.in-Ok-make_room.ensures.queues in
+    let v1 = c.make_room.new.seats.entries in
+    let alike = alike-finished c.work.inside.conn c.work.inside.plan.change _ v1 _ c.in-Ok-make_room.ensures.prepares c.finish.ensures.made in
     rw (← c.self.view_is)
-    (goes-on _ _ c.self.inside.seats.entries (c.work.inside.conn ∷ []) c.reserve.new.self.waiting (invariant_of-self-2 c).stands (λ d. c.put_all.ensures.taken d ∙ c.in-Ok-make_room.ensures.queues.taken d) (λ d. c.put_all.ensures.forgotten d ∙ c.in-Ok-make_room.ensures.queues.forgotten d)
-    (alike-finished c.work.inside.conn c.work.inside.plan.change _ c.make_room.new.seats.entries _ c.in-Ok-make_room.ensures.prepares c.finish.ensures) c.self.invariant.ready c.reserve.ensures.same.waiting c.refresh.ensures.refreshes)
+    (goes-on _ _ c.self.inside.seats.entries (c.work.inside.conn ∷ []) c.reserve.new.self.waiting (invariant_of-self-2 c).stands
+    (λ d. queues.taken d ∙ roomy.taken d) (λ d. queues.forgotten d ∙ roomy.forgotten d)
+    alike c.self.invariant.ready c.reserve.ensures.same.waiting c.refresh.ensures.refreshes)
 
 pub returns-in_default-clause-goes : goal.returns-in_default-clause-goes
 returns-in_default-clause-goes c = rw (← c.self.view_is) (goes-nowhere _ _ c.self.invariant.stands c.self.invariant.ready (search rules))

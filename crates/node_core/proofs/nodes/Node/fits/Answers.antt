@@ -6,8 +6,11 @@ use Rattle.node_core.proofs.nodes.Node.fits.Goals as goal
 
 pub returns : goal.returns
 returns c =
-    let n : NodeState = record { no = c.self.inside.no; kept = c.self.inside.journal.kept; outs = c.self.inside.outboxes; ready = c.self.inside.ready.waiting } in
-    let w : WorkState = record { node = c.work.inside.node; conn = c.work.inside.conn; place = c.work.inside.place; task = c.work.inside.task; plan = c.work.inside.plan; puts = c.work.inside.puts.items } in
+    let self = c.self.inside in
+    let n : NodeState = record { no = self.no; kept = self.journal.kept; outs = self.seats.outs; ready = self.ready.waiting } in
+    let work = c.work.inside in
+    let w : WorkState = record { node = work.node; conn = work.conn; place = work.place; task = work.task; plan = work.plan; puts = work.puts.items } in
     let node : c.work.inside.node ≡ c.self.inside.no = search rules in
     let done : length c.work.inside.puts.items ≡ length c.work.inside.plan.casts = search rules in
-    rw (← c.work.view_is, ← c.self.view_is) (fits-as w n c.self.inside.seats.entries c.is_out.result c.self.invariant.stands.numbers node done c.is_out.ensures.0 c.is_out.ensures.1)
+    rw (← c.work.view_is, ← c.self.view_is)
+    (fits-as w n self.seats.entries c.is_out.result c.self.invariant.stands.numbers node done c.is_out.ensures.0 c.is_out.ensures.1)

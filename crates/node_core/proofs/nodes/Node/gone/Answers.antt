@@ -1,4 +1,5 @@
-use Rattle.std.proofs.Common.{rules, ◌∙◌, [], ◌∷◌, refl, sym}
+use Rattle.std.proofs.Common.{rules, ◌∙◌, [], ◌∷◌, sym, ap}
+use Rattle.node_seats.specs.Outboxes.{forgotten_at, taken_at}
 use Rattle.node_core.proofs.StayingReady.{alike-moved, goes-nowhere, goes-on, still-ready}
 use Rattle.node_core.proofs.Telling.{worked, receiving-at}
 use Rattle.node_core.proofs.Standing.{goes, room-left}
@@ -13,10 +14,12 @@ returns-then-not-is_receiving-clause-answer c =
 pub invariant_of-self-2 : goal.invariant_of-self-2
 invariant_of-self-2 c =
     let is = receiving-at _ c.self.inside.seats.entries c.args.conn.0 (worked _ c.self.invariant.stands.legal) c.self.invariant.stands.numbers in record {
-      stands = rw (c.enter.ensures.entered, c.in_ok-reserve-2.ensures.kept)
+      stands = rw (c.enter.ensures.entered, c.in_ok-reserve-2.ensures.kept, c.in_ok-put.ensures.outs)
           (goes c.args.conn.0 _ c.self.invariant.stands (sym is ∙ (sym c.is_receiving.ensures ∙ c.if-not-is_receiving.false)) c.in_ok-put.ensures.ok);
-      turn_room = room-left _ c.reserve-2.new.self c.enter.new.self c.in_ok-reserve-2.ensures.log c.in_ok-reserve-2.ensures.beside c.enter.ensures.log c.enter.ensures.beside;
-      ready = still-ready c.self.inside.seats.entries c.put.new.self.entries (c.args.conn ∷ []) _ _ _ (alike-moved c.args.conn _ _ _ c.in_ok-put.ensures.ok) c.self.invariant.ready c.in_ok-reserve.ensures.same.waiting c.refresh.ensures.refreshes;
+      turn_room = room-left _ c.reserve-2.new.self c.enter.new.self
+          c.in_ok-reserve-2.ensures.log c.in_ok-reserve-2.ensures.beside c.enter.ensures.log c.enter.ensures.beside;
+      ready = still-ready c.self.inside.seats.entries c.put.new.self.entries (c.args.conn ∷ []) _ _ _ (alike-moved c.args.conn _ _ _ c.in_ok-put.ensures.ok)
+          c.self.invariant.ready c.in_ok-reserve.ensures.same.waiting c.refresh.ensures.refreshes;
     }
 
 pub returns-clause-answer : goal.returns-clause-answer
@@ -28,7 +31,9 @@ returns-clause-answer c =
 pub returns-clause-goes : goal.returns-clause-goes
 returns-clause-goes c =
     rw (← c.self.view_is)
-    (goes-on _ _ c.self.inside.seats.entries (c.args.conn ∷ []) c.reserve.new.self.waiting (invariant_of-self-2 c).stands (λ d. refl) (λ d. refl) (alike-moved c.args.conn _ _ _ c.in_ok-put.ensures.ok) c.self.invariant.ready c.in_ok-reserve.ensures.same.waiting c.refresh.ensures.refreshes)
+    (goes-on _ _ c.self.inside.seats.entries (c.args.conn ∷ []) c.reserve.new.self.waiting (invariant_of-self-2 c).stands
+    (λ d. ap (taken_at d) c.in_ok-put.ensures.outs) (λ d. ap (forgotten_at d) c.in_ok-put.ensures.outs)
+    (alike-moved c.args.conn _ _ _ c.in_ok-put.ensures.ok) c.self.invariant.ready c.in_ok-reserve.ensures.same.waiting c.refresh.ensures.refreshes)
 
 pub returns-then-not-is_receiving-clause-goes : goal.returns-then-not-is_receiving-clause-goes
 returns-then-not-is_receiving-clause-goes c = rw (← c.self.view_is) (goes-nowhere _ _ c.self.invariant.stands c.self.invariant.ready (search rules))

@@ -3,4 +3,6 @@ use Rattle.node_core.proofs.nodes.Node.is_drained.Goals as goal
 
 pub returns : goal.returns
 returns c =
-    rw (← c.self.view_is) (drained c.args.conn.0 _ c.self.inside.outboxes (c.self.invariant.stands.queues c.args.conn.0) c.is_empty.result c.is_empty.ensures.0 c.is_empty.ensures.1)
+    let queued = c.self.invariant.stands.queues c.args.conn.0 in
+    rw (← c.self.view_is)
+    (drained c.args.conn.0 _ c.self.inside.seats.outs queued c.is_drained.result c.is_drained.ensures.0 c.is_drained.ensures.1)

@@ -8,13 +8,15 @@ use Rattle.node_core.proofs.nodes.Node.miss.Goals as goal
 
 pub close-requires : goal.close-requires
 close-requires c =
-    let n : NodeState = record { no = c.self.inside.no; kept = c.self.inside.journal.kept; outs = c.self.inside.outboxes; ready = c.self.inside.ready.waiting } in
+    let self = c.self.inside in
+    let n : NodeState = record { no = self.no; kept = self.journal.kept; outs = self.seats.outs; ready = self.ready.waiting } in
     let e = rw (← c.self.view_is) at c.requires.expected in
     turn-out c.args.caught c.self.inside.cursor _ _ c.self.invariant.stands.listens (expected c.args.caught n e)
 
 pub invariant_of-self : goal.invariant_of-self
 invariant_of-self c =
-    let n : NodeState = record { no = c.self.inside.no; kept = c.self.inside.journal.kept; outs = c.self.inside.outboxes; ready = c.self.inside.ready.waiting } in
+    let self = c.self.inside in
+    let n : NodeState = record { no = self.no; kept = self.journal.kept; outs = self.seats.outs; ready = self.ready.waiting } in
     let e = rw (← c.self.view_is) at c.requires.expected in
     let x = expected c.args.caught n e in record {
       stands = rw (c.enter.ensures.entered, c.give_back.ensures.wanted, c.give_back.ensures.taken, c.number-turn.ensures, c.note_with-note.ensures)
@@ -25,4 +27,6 @@ invariant_of-self c =
 
 pub returns-clause-goes : goal.returns-clause-goes
 returns-clause-goes c =
-    rw (← c.self.view_is) (goes-on _ _ c.self.inside.seats.entries [] c.self.inside.ready.waiting (invariant_of-self c).stands (λ d. refl) (λ d. refl) (λ d e. refl) c.self.invariant.ready refl (looks-none _ _ _ refl))
+    rw (← c.self.view_is)
+    (goes-on _ _ c.self.inside.seats.entries [] c.self.inside.ready.waiting (invariant_of-self c).stands (λ d. refl) (λ d. refl) (λ d e. refl)
+    c.self.invariant.ready refl (looks-none _ _ _ refl))

@@ -1,6 +1,33 @@
 use Rattle.std.proofs.Common.{sym}
+use Rattle.std.proofs.lemmas.Result.{on_ok_weaker}
+use Rattle.conn_seat.specs.Seats.{Becomes}
+use Rattle.node_seats.specs.Numbers.{Lives, Widens}
+use Rattle.node_seats.proofs.Faces.{over}
 use Rattle.node_seats.proofs.Moving.{tidy}
+use Rattle.node_seats.proofs.Shown.{live-kept, live-missing, moved-by, on-opened, outbox-same}
 use Rattle.node_seats.proofs.seats.Seats.reserve.Goals as goal
 
+pub reserve-requires : goal.reserve-requires
+reserve-requires c = live-kept _ _ _ c.self.view_is _ (sym c.in-Some.ensures.value) c.requires.live
+
 pub invariant_of-self : goal.invariant_of-self
-invariant_of-self c = tidy c.args.conn.0 c.self.inside.live c.self.inside.by_number (c.get_mut.follows.lender c.reserve.new.kept) _ _ (sym c.in-Some.ensures.value) (c.get_mut.follows.holds c.reserve.new.kept) c.reserve.ensures.live c.reserve.ensures.keeps c.self.invariant
+invariant_of-self c =
+    let m = c.self.inside.by_number in
+    let n = c.get_mut.follows.lender c.reserve.new.self in
+    let w = over c.args.conn.0 m n _ c.reserve.new.self (sym c.in-Some.ensures.value) (c.get_mut.follows.holds c.reserve.new.self) in
+    tidy c.args.conn.0 c.self.inside.live _ _ _ _ (on-opened c.args.conn.0 _ _ m.entries n.entries w)
+    c.reserve.ensures.live c.reserve.ensures.keeps c.self.invariant
+
+pub returns : goal.returns
+returns c =
+    let m = c.self.inside.by_number in
+    let n = c.get_mut.follows.lender c.reserve.new.self in
+    let w = over c.args.conn.0 m n _ c.reserve.new.self (sym c.in-Some.ensures.value) (c.get_mut.follows.holds c.reserve.new.self) in
+    record {
+      same = moved-by _ _ _ _ _ w _ c.self.view_is (Lives Becomes) c.reserve.ensures.same;
+      ok = on_ok_weaker c.reserve.result (moved-by _ _ _ _ _ w _ c.self.view_is (Lives (Widens c.args.more))) c.reserve.ensures.ok;
+      outs = outbox-same _ _ _ _ _ w _ c.self.view_is c.reserve.ensures.outbox;
+    }
+
+pub unreachable-requires : goal.unreachable-requires
+unreachable-requires c = live-missing c.args.conn.0 _ _ c.self.view_is (sym c.in_default.ensures.value) c.requires.live

@@ -1,9 +1,35 @@
 use Rattle.std.proofs.Common.{sym}
-use Rattle.node_seats.proofs.Moving.{tidy, same-again}
+use Rattle.std.proofs.lemmas.Result.{on_ok_weaker, on_err_weaker}
+use Rattle.node_seats.specs.Numbers.{Lives, Prepares}
+use Rattle.node_seats.proofs.Faces.{over}
+use Rattle.node_seats.proofs.Moving.{tidy}
+use Rattle.node_seats.proofs.Shown.{live-kept, live-missing, moved-by, on-opened, one-outbox, opened-same}
+use Rattle.node_seats.proofs.OneQueue.{widens}
 use Rattle.node_seats.proofs.seats.Seats.reserve_plan.Goals as goal
 
-pub invariant_of-self : goal.invariant_of-self
-invariant_of-self c = tidy c.args.conn.0 c.self.inside.live c.self.inside.by_number (c.get_mut.follows.lender c.reserve_plan.new.kept) _ _ (sym c.in-Some.ensures.value) (c.get_mut.follows.holds c.reserve_plan.new.kept) c.reserve_plan.ensures.live c.reserve_plan.ensures.keeps c.self.invariant
+pub reserve_plan-requires : goal.reserve_plan-requires
+reserve_plan-requires c = live-kept _ _ _ c.self.view_is _ (sym c.in-Some.ensures.value) c.requires.live
 
-pub returns-clause-err : goal.returns-clause-err
-returns-clause-err c = same-again c.args.conn.0 c.self.inside.by_number (c.get_mut.follows.lender c.reserve_plan.new.kept) _ _ _ _ c.self.view_is (sym c.in-Some.ensures.value) (c.get_mut.follows.holds c.reserve_plan.new.kept) c.reserve_plan.ensures.err
+pub invariant_of-self : goal.invariant_of-self
+invariant_of-self c =
+    let m = c.self.inside.by_number in
+    let n = c.get_mut.follows.lender c.reserve_plan.new.self in
+    let w = over c.args.conn.0 m n _ c.reserve_plan.new.self (sym c.in-Some.ensures.value) (c.get_mut.follows.holds c.reserve_plan.new.self) in
+    tidy c.args.conn.0 c.self.inside.live _ _ _ _ (on-opened c.args.conn.0 _ _ m.entries n.entries w)
+    c.reserve_plan.ensures.live c.reserve_plan.ensures.keeps c.self.invariant
+
+pub returns : goal.returns
+returns c =
+    let m = c.self.inside.by_number in
+    let n = c.get_mut.follows.lender c.reserve_plan.new.self in
+    let w = over c.args.conn.0 m n _ c.reserve_plan.new.self (sym c.in-Some.ensures.value) (c.get_mut.follows.holds c.reserve_plan.new.self) in
+    let one = one-outbox _ _ _ _ _ w _ c.self.view_is in
+    record {
+      ok = on_ok_weaker c.reserve_plan.result (moved-by _ _ _ _ _ w _ c.self.view_is (Lives (Prepares c.args.plan.now.change))) c.reserve_plan.ensures.ok;
+      err = on_err_weaker c.reserve_plan.result (opened-same _ _ _ _ _ w _ c.self.view_is) c.reserve_plan.ensures.err;
+      outs = widens _ _ _ _ _ one c.reserve_plan.ensures.outbox;
+      room = on_ok_weaker c.reserve_plan.result (λ room. rw (one.is) room) c.reserve_plan.ensures.room;
+    }
+
+pub unreachable-requires : goal.unreachable-requires
+unreachable-requires c = live-missing c.args.conn.0 _ _ c.self.view_is (sym c.in_default.ensures.value) c.requires.live

@@ -1,12 +1,38 @@
-use Rattle.std.proofs.Common.{sym}
-use Rattle.node_seats.proofs.Moving.{tidy, same-again, same-unless}
+use Rattle.std.proofs.Common.{Option, sym, ap, ◌∙◌}
+use Rattle.std.proofs.lemmas.Result.{IfOk-weaker}
+use Rattle.conn_seat.specs.Seats.{Becomes, with_taken}
+use Rattle.node_seats.specs.Numbers.{Lives, Opened, seat_in}
+use Rattle.node_seats.specs.Turned.{errand_in}
+use Rattle.node_seats.proofs.Faces.{over}
+use Rattle.node_seats.proofs.Moving.{tidy}
+use Rattle.node_seats.proofs.Shown.{moved-by, on-opened, opened-found, opened-missing, outbox-same, same-again, same-unless}
 use Rattle.node_seats.proofs.seats.Seats.take.Goals as goal
 
 pub invariant_of-self-2 : goal.invariant_of-self-2
-invariant_of-self-2 c = tidy c.args.conn.0 c.self.inside.live c.self.inside.by_number (c.get_mut.follows.lender c.take.new.kept) _ _ (sym c.in-Some.ensures.value) (c.get_mut.follows.holds c.take.new.kept) c.take.ensures.live c.take.ensures.keeps c.self.invariant
+invariant_of-self-2 c =
+    let m = c.self.inside.by_number in
+    let n = c.get_mut.follows.lender c.take.new.self in
+    let w = over c.args.conn.0 m n _ c.take.new.self (sym c.in-Some.ensures.value) (c.get_mut.follows.holds c.take.new.self) in
+    tidy c.args.conn.0 c.self.inside.live _ _ _ _ (on-opened c.args.conn.0 _ _ m.entries n.entries w)
+    c.take.ensures.live c.take.ensures.keeps c.self.invariant
 
-pub returns-clause-none : goal.returns-clause-none
-returns-clause-none c = same-unless c.args.conn.0 c.self.inside.by_number (c.get_mut.follows.lender c.take.new.kept) _ _ c.take.result _ c.self.view_is (sym c.in-Some.ensures.value) (c.get_mut.follows.holds c.take.new.kept) c.take.ensures.none
+pub returns : goal.returns
+returns c =
+    let m = c.self.inside.by_number in
+    let n = c.get_mut.follows.lender c.take.new.self in
+    let w = over c.args.conn.0 m n _ c.take.new.self (sym c.in-Some.ensures.value) (c.get_mut.follows.holds c.take.new.self) in
+    let found = opened-found _ _ _ c.self.view_is _ (sym c.in-Some.ensures.value) in
+    record {
+      answer = IfOk-weaker c.take.result _ _ (λ e is. is ∙ ap (λ o. errand_in (seat_in o)) (sym found)) c.take.ensures.answer;
+      taken =
+          IfOk-weaker c.take.result _ _
+          (λ e is some. moved-by _ _ _ _ _ w _ c.self.view_is (Lives (λ s t. Becomes (with_taken s) t)) (is some))
+          c.take.ensures.taken;
+      none = same-unless _ _ _ _ _ w _ c.self.view_is c.take.result c.take.ensures.none;
+      err = same-again _ _ _ _ _ w _ c.self.view_is c.take.result c.take.ensures.err;
+      outs = outbox-same _ _ _ _ _ w _ c.self.view_is c.take.ensures.outbox;
+    }
 
-pub returns-clause-err : goal.returns-clause-err
-returns-clause-err c = same-again c.args.conn.0 c.self.inside.by_number (c.get_mut.follows.lender c.take.new.kept) _ _ c.take.result _ c.self.view_is (sym c.in-Some.ensures.value) (c.get_mut.follows.holds c.take.new.kept) c.take.ensures.err
+pub returns-in_default-clause-answer : goal.returns-in_default-clause-answer
+returns-in_default-clause-answer c =
+    sym (ap (λ (o : Option Opened). errand_in (seat_in o)) (opened-missing c.args.conn.0 _ _ c.self.view_is (sym c.in_default.ensures.value)))

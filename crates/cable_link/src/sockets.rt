@@ -1,0 +1,247 @@
+ghost use Rattle.std.specs.Prelude.{◌≡◌, ◌≤◌, IfOk, OnOk};
+ghost use Rattle.cable_base.specs.Causes.{Rose};
+ghost use Rattle.cable_base.specs.Troubles.{HasTrouble};
+ghost use Rattle.cable_base.specs.declared.faults.Trouble.TheVariants as trouble;
+ghost use Rattle.cable_link.specs.Sockets.{GivesNone, IsTaken};
+
+use crate::links::{Came, Link};
+use crate::outcomes::{Outcome, outcome_of};
+use cable_base::{Millis, Text, Trouble};
+use mio::net::TcpStream;
+use std::alloc::Global;
+use std::io::{Read, Write};
+use tungstenite::{CloseCode, CloseFrame, Error, MaskKeys, Message, Utf8Bytes, WebSocket};
+
+/// Why a server closes a socket.
+#[derive(Clone, Copy, Debug, PartialEq, Eq)]
+pub enum Goodbye {
+    /// The connection is over. The code is 1000.
+    Ended,
+    /// A message was longer than the link takes. The code is 1009.
+    TooLong,
+    /// Memory was wanted and not to be had. The code is 1011.
+    NoMemory,
+}
+
+/// What the peer hasn't taken of that which was said.
+#[derive(Clone, Copy, Debug, PartialEq, Eq)]
+enum Backlog {
+    /// Nothing.
+    Nothing,
+    /// Something, and no moment was told since.
+    Unseen,
+    /// Something, since this moment or before.
+    Since(Millis),
+}
+
+/// A link over a socket whose stream doesn't block.
+///
+/// No call waits: `next` is quiet where nothing is there, and what the peer doesn't take at once stands in the socket's output until `flush`
+/// hands it on. `K` gives a client's masking keys; a server has `NoMask`. A binary message is passed over, and so are a ping, which is
+/// answered, and a pong.
+#[derive(Drop)]
+pub struct WsLink<K> {
+    socket: WebSocket<TcpStream, K>,
+    alloc: Global,
+    faults: u64,
+    // Nothing was there to be read when the link was last asked.
+    dry: bool,
+    // The message that ended the link was too long.
+    too_long: bool,
+    backlog: Backlog,
+}
+
+impl<K: MaskKeys + Drop> WsLink<K> {
+    /// A link over a socket whose handshake is done and whose stream doesn't block. It has counted no fault yet.
+    pub fn on(alloc: Global, socket: WebSocket<TcpStream, K>) -> WsLink<K>
+        ensures { ⟦<WsLink<K> as Link>⟧.faults result ≡ 0 }
+    {
+        WsLink {
+            socket,
+            alloc,
+            faults: 0,
+            dry: false,
+            too_long: false,
+            backlog: Backlog::Nothing,
+        }
+    }
+
+    /// Its stream, to be registered where readiness is waited for.
+    pub fn stream(&mut self) -> &mut TcpStream {
+        self.socket.get_mut()
+    }
+
+    /// Whether nothing was there to be read when `next` was last called. Before that it need not be asked again until the stream is readable.
+    pub fn is_dry(&self) -> bool {
+        self.dry
+    }
+
+    /// Whether the link failed since a message was longer than it takes.
+    pub fn is_too_long(&self) -> bool {
+        self.too_long
+    }
+
+    /// Whether something that was said still waits in the link.
+    pub fn is_behind(&self) -> bool {
+        self.backlog != Backlog::Nothing
+    }
+
+    /// The moment of the first `flush` that left something, since the peer had last taken all. `None` where nothing waits, or where
+    /// there was no `flush` since.
+    pub fn behind_since(&self) -> Option<Millis> {
+        match self.backlog {
+            Backlog::Since(at) => Some(at),
+            _ => None,
+        }
+    }
+
+    /// Offers what waits to the peer, at this moment of the caller's clock. What it doesn't take goes on waiting.
+    pub fn flush(&mut self, at: Millis) -> Result<(), Trouble>
+        ensures cause { HasTrouble (⟦<WsLink<K> as Link>⟧.faults self.old) (⟦<WsLink<K> as Link>⟧.faults self.new) result }
+        ensures calm { OnOk result (⟦<WsLink<K> as Link>⟧.faults self.new ≡ ⟦<WsLink<K> as Link>⟧.faults self.old) }
+    {
+        let flushed = self.socket.flush();
+        let settled = self.settle(flushed);
+        if self.backlog == Backlog::Unseen {
+            self.backlog = Backlog::Since(at);
+        }
+        settled
+    }
+
+    /// Says why the socket is closed, once. Behind that nothing can be said; what is still to come can be read, until the peer has
+    /// closed too.
+    pub fn close(&mut self, why: Goodbye) -> Result<(), Trouble>
+        ensures cause { HasTrouble (⟦<WsLink<K> as Link>⟧.faults self.old) (⟦<WsLink<K> as Link>⟧.faults self.new) result }
+        ensures calm { OnOk result (⟦<WsLink<K> as Link>⟧.faults self.new ≡ ⟦<WsLink<K> as Link>⟧.faults self.old) }
+    {
+        let code = match why {
+            Goodbye::Ended => CloseCode::Normal,
+            Goodbye::TooLong => CloseCode::Size,
+            Goodbye::NoMemory => CloseCode::Error,
+        };
+        let reason = Utf8Bytes::new();
+        let closed = self.socket.close(Some(CloseFrame { code, reason }));
+        self.settle(closed)
+    }
+
+    fn failed(&mut self) -> Trouble
+        ensures result { result ≡ trouble.Failed }
+        ensures later { self.old.faults ≤ self.new.faults }
+        ensures rose { Rose self.old.faults self.new.faults }
+        ensures socket { self.new.socket ≡ self.old.socket }
+    {
+        self.faults = self.faults.saturating_add(1);
+        Trouble::Failed
+    }
+
+    /// What is left in the output behind a write. A stream that would block has kept all that was handed to it.
+    fn settle(&mut self, written: Result<(), Error>) -> Result<(), Trouble>
+        ensures socket { self.new.socket ≡ self.old.socket }
+        ensures ok { OnOk result (IsTaken written) }
+        ensures cause { HasTrouble self.old.faults self.new.faults result }
+        ensures calm { OnOk result (self.new.faults ≡ self.old.faults) }
+    {
+        let Err(error) = written else {
+            self.backlog = Backlog::Nothing;
+            return Ok(());
+        };
+        match outcome_of(&error) {
+            Outcome::Blocked => {
+                if self.backlog == Backlog::Nothing {
+                    self.backlog = Backlog::Unseen;
+                }
+                Ok(())
+            }
+            Outcome::NoMemory => Err(Trouble::OutOfMemory),
+            Outcome::Closed | Outcome::TooLong | Outcome::Broken => Err(self.failed()),
+        }
+    }
+
+    /// Hands on a reply that the socket has made to a ping.
+    fn reply(&mut self) -> Result<(), Trouble>
+        ensures cause { HasTrouble self.old.faults self.new.faults result }
+        ensures calm { OnOk result (self.new.faults ≡ self.old.faults) }
+    {
+        let flushed = self.socket.flush();
+        self.settle(flushed)
+    }
+
+    /// Hands on the reply to a close. The peer may be gone, which is no fault then.
+    fn reply_to_close(&mut self)
+        ensures { self.new.faults ≡ self.old.faults }
+    {
+        let flushed = self.socket.flush();
+        if let Err(error) = flushed
+            && outcome_of(&error) == Outcome::Blocked
+            && self.backlog == Backlog::Nothing
+        {
+            self.backlog = Backlog::Unseen;
+        }
+    }
+
+    /// What a read that gave no message is.
+    fn read_failed(&mut self, error: &Error) -> Result<Came, Trouble>
+        ensures cause { HasTrouble self.old.faults self.new.faults result }
+        ensures calm { OnOk result (self.new.faults ≡ self.old.faults) }
+        ensures none { IfOk result GivesNone }
+    {
+        match outcome_of(error) {
+            Outcome::Blocked => {
+                self.dry = true;
+                Ok(Came::Quiet)
+            }
+            Outcome::Closed => Ok(Came::Closed),
+            Outcome::NoMemory => Err(Trouble::OutOfMemory),
+            Outcome::TooLong => {
+                self.too_long = true;
+                Err(self.failed())
+            }
+            Outcome::Broken => Err(self.failed()),
+        }
+    }
+}
+
+impl<K: MaskKeys + Drop> Link for WsLink<K> {
+    ghost use Rattle.std.specs.Prelude.{None};
+    ghost use Rattle.cable_link.specs.Sockets.{GivesRead, HandsOn};
+
+    ghost coming = { λ _. None };
+
+    ghost said = { λ _. None };
+
+    ghost faults = { λ l. l.faults };
+
+    ghost gives = { λ old result new. GivesRead ⟦<TcpStream as Read>⟧.remaining old.socket result new.socket };
+
+    ghost says = { λ old text result new. HandsOn ⟦<TcpStream as Write>⟧.contents old.socket text result new.socket };
+
+    fn next(&mut self) -> Result<Came, Trouble> {
+        self.dry = false;
+        let read = self.socket.read();
+        let message = match read {
+            Ok(message) => message,
+            Err(error) => return self.read_failed(&error),
+        };
+        match &message {
+            Message::Text(text) => Ok(Came::Text(Text::new(self.alloc, text.as_str())?)),
+            Message::Binary(_) => Ok(Came::Binary),
+            Message::Close(_) => {
+                self.reply_to_close();
+                Ok(Came::Closed)
+            }
+            Message::Ping(_) => {
+                self.reply()?;
+                Ok(Came::Quiet)
+            }
+            Message::Pong(_) => Ok(Came::Quiet),
+        }
+    }
+
+    fn say(&mut self, text: &str) -> Result<(), Trouble> {
+        let Ok(message) = Message::text(self.alloc, text) else {
+            return Err(Trouble::OutOfMemory);
+        };
+        let sent = self.socket.send(message);
+        self.settle(sent)
+    }
+}

@@ -1,5 +1,0 @@
-use Rattle.node_holds.proofs.RowsBring.{brings-rows}
-use Rattle.node_holds.proofs.bringing_laws.rows_go_to_their_holders.Goals as goal
-
-pub returns : goal.returns
-returns c = brings-rows

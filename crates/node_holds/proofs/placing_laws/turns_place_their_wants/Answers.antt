@@ -1,5 +1,0 @@
-use Rattle.node_holds.proofs.PlacingTurn.{places-new, places-held}
-use Rattle.node_holds.proofs.placing_laws.turns_place_their_wants.Goals as goal
-
-pub returns : goal.returns
-returns c = record { new = places-new; held = places-held }

@@ -1,4 +1,0 @@
-pub mod Making
-pub mod Putting
-pub mod Taking
-pub mod Rooms

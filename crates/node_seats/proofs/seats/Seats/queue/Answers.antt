@@ -1,0 +1,31 @@
+use Rattle.std.proofs.Common.{◌≤◌, sym, ap, subst, arith}
+use Rattle.conn_seat.specs.Outboxes.{OutboxState}
+use Rattle.node_seats.proofs.Faces.{over}
+use Rattle.node_seats.proofs.OneQueue.{queues-one}
+use Rattle.node_seats.proofs.Shown.{one-outbox, opened-same, outbox-found, outbox-missing, tidy-still}
+use Rattle.node_seats.proofs.seats.Seats.queue.Goals as goal
+
+pub queue-requires : goal.queue-requires
+queue-requires c = subst (λ (o : OutboxState). 1 ≤ o.room) (outbox-found _ _ _ c.self.view_is _ (sym c.in-Some.ensures.value)) c.requires.room
+
+pub invariant_of-self : goal.invariant_of-self
+invariant_of-self c =
+    let m = c.self.inside.by_number in
+    let n = c.get_mut.follows.lender c.queue.new.self in
+    let w = over c.args.more.conn.0 m n _ c.queue.new.self (sym c.in-Some.ensures.value) (c.get_mut.follows.holds c.queue.new.self) in
+    tidy-still _ _ _ m.entries n.entries w c.self.inside.live c.queue.ensures.opened c.self.invariant
+
+pub returns : goal.returns
+returns c =
+    let m = c.self.inside.by_number in
+    let n = c.get_mut.follows.lender c.queue.new.self in
+    let w = over c.args.more.conn.0 m n _ c.queue.new.self (sym c.in-Some.ensures.value) (c.get_mut.follows.holds c.queue.new.self) in
+    record {
+      entries = opened-same _ _ _ _ _ w _ c.self.view_is c.queue.ensures.opened;
+      queues = queues-one c.args.more _ _ _ _ (one-outbox _ _ _ _ _ w _ c.self.view_is) c.queue.ensures.queued;
+    }
+
+pub unreachable-requires : goal.unreachable-requires
+unreachable-requires c =
+    let none = ap (λ (o : OutboxState). o.room) (outbox-missing c.args.more.conn.0 _ _ c.self.view_is (sym c.in_default.ensures.value)) in
+    omega (arith, none, c.requires.room)

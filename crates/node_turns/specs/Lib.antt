@@ -1,0 +1,4 @@
+pub mod Wants
+pub mod Wished
+pub mod Held
+pub mod Holding

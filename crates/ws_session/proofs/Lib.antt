@@ -1,0 +1,9 @@
+pub mod SaysMore
+pub mod WholeCalls
+pub mod Calm
+pub mod PassedOn
+pub mod Queued
+pub mod Closes
+pub mod NodeSays
+pub mod EndsSession
+pub mod HalfHeard

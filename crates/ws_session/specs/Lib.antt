@@ -1,0 +1,5 @@
+pub mod Calls
+pub mod Pumping
+pub mod Halves
+pub mod Rounds
+pub mod OverNode
