@@ -51,6 +51,8 @@ fn is_to_wait(error: &io::Error) -> bool {
 
 impl ListenerDoor {
     /// A door over a listener that doesn't block. It waits at most so long for a socket, and fails once it is told to stop.
+    ///
+    /// It is refused where the system can't wait for the listener, or memory is wanted.
     pub fn on<R: Net>(
         rt: &R,
         alloc: Global,

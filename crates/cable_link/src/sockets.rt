@@ -71,7 +71,8 @@ impl<K: MaskKeys + Drop> WsLink<K> {
         self.socket.get_mut()
     }
 
-    /// Whether nothing was there to be read when `next` was last called. Before that it need not be asked again until the stream is readable.
+    /// Whether nothing was there to be read when `next` was last called: it need not be called again before the stream is readable. A link
+    /// that is behind may be dry while a ping waits to be answered; then it is to be called again once it isn't behind.
     pub fn is_dry(&self) -> bool {
         self.dry
     }
@@ -95,7 +96,8 @@ impl<K: MaskKeys + Drop> WsLink<K> {
         }
     }
 
-    /// Offers what waits to the peer, at this moment of the caller's clock. What it doesn't take goes on waiting.
+    /// Offers what waits to the peer, at this moment of the caller's clock. What it doesn't take goes on waiting. It is refused where the
+    /// stream fails.
     pub fn flush(&mut self, at: Millis) -> Result<(), Trouble>
         ensures cause { HasTrouble (⟦<WsLink<K> as Link>⟧.faults self.old) (⟦<WsLink<K> as Link>⟧.faults self.new) result }
         ensures calm { OnOk result (⟦<WsLink<K> as Link>⟧.faults self.new ≡ ⟦<WsLink<K> as Link>⟧.faults self.old) }
@@ -109,7 +111,7 @@ impl<K: MaskKeys + Drop> WsLink<K> {
     }
 
     /// Says why the socket is closed, once. Behind that nothing can be said; what is still to come can be read, until the peer has
-    /// closed too.
+    /// closed too. It is refused where the stream fails or memory is wanted.
     pub fn close(&mut self, why: Goodbye) -> Result<(), Trouble>
         ensures cause { HasTrouble (⟦<WsLink<K> as Link>⟧.faults self.old) (⟦<WsLink<K> as Link>⟧.faults self.new) result }
         ensures calm { OnOk result (⟦<WsLink<K> as Link>⟧.faults self.new ≡ ⟦<WsLink<K> as Link>⟧.faults self.old) }

@@ -35,7 +35,8 @@ fn ruling_in(found: Found) -> Option<Ruling> {
 }
 
 impl Shake {
-    /// Begins a handshake over a stream that doesn't block. Its request is admitted by these rules.
+    /// Begins a handshake over a stream that doesn't block. Its request is admitted by these rules. It is refused where memory is
+    /// wanted.
     pub fn begin(
         alloc: Global,
         stream: TcpStream,

@@ -7,7 +7,9 @@ invariant_of-self-2 c = others_come c.in-Some.came _ (rw c.in-Some.ensures.items
 
 pub returns-clause-gives : goal.returns-clause-gives
 returns-clause-gives c =
-    rw (← c.self.view_is) (gives_first _ c.in-Some.came _ _ c.self.invariant c.in-Some.ensures.items (sym c.if-next_fails.ensures.fails) c.next_fails.ensures.counts)
+    let first = c.in-Some.ensures.items in
+    let calm = sym c.if-next_fails.ensures.fails in
+    rw (← c.self.view_is) (gives_first _ c.in-Some.came _ _ c.self.invariant first calm c.next_fails.ensures.counts)
 
 pub returns-clause-comes : goal.returns-clause-comes
 returns-clause-comes c =
