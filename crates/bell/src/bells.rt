@@ -24,7 +24,7 @@ impl Bell {
     /// Ends one wait: one that is under way, or else the next one.
     pub fn ring<R: Wait>(&self, rt: &R) {
         let mut rings = self.rings.lock(rt);
-        rings.keep(1);
+        rings.keep_one();
         drop(rings);
         self.rung.notify_one();
     }
@@ -32,18 +32,21 @@ impl Bell {
     /// Ends the wait of each who waits here: those that are under way, and else the next ones.
     pub fn ring_all<R: Wait>(&self, rt: &R) {
         let mut rings = self.rings.lock(rt);
-        let most = rings.most();
-        rings.keep(most);
+        rings.keep_all();
         drop(rings);
         self.rung.notify_all();
     }
 
-    /// Waits until a ring, and at most for so long. Answers whether a ring ended the wait.
+    /// Waits until a ring, and at most for so long. Answers whether a ring ended the wait, which is used then. A ring that
+    /// is kept ends the wait at once, even where it may last no time.
     pub fn wait<R: Wait + Clock>(&self, rt: &R, at_most: Duration) -> bool {
         let (mut rings, waited) = self
             .rung
             .wait_timeout_while(rt, self.rings.lock(rt), at_most, |rings| rings.is_empty());
+        if waited.timed_out() {
+            return false;
+        }
         rings.use_one();
-        !waited.timed_out()
+        true
     }
 }

@@ -2,6 +2,8 @@
 #![tactic(auto)]
 
 mod bells;
+mod laws;
 mod rings;
 
 pub use bells::Bell;
+pub use laws::rings_are_not_lost;

@@ -1,47 +1,60 @@
-ghost use Rattle.std.specs.Prelude.{◌≡◌, ◌≤◌, ◌<◌, ◌+◌, ◌-◌, ◌↔◌, min, IsTrue};
+ghost use Rattle.std.specs.Prelude.{◌≡◌, ◌↔◌, IsTrue};
+ghost use Rattle.bell.specs.Rings.{EndsWait, rung, rung_for_all, used};
+
+use std::marker::Model;
 
 /// The rings that nobody waited for yet, and how many of them are kept at most.
 #[derive(Debug, Drop)]
 pub(crate) struct Rings {
     kept: u32,
     most: u32,
-    ghost bound: { kept ≤ most },
+}
+
+impl Model for Rings {
+    ghost use Rattle.std.specs.Prelude.{◌≤◌};
+    ghost use Rattle.bell.specs.Rings.{KeptRings};
+
+    ghost Value = { KeptRings };
+
+    ghost view = { λ r. record { kept = r.kept; most = r.most } };
+
+    ghost invariant = { λ r. r.kept ≤ r.most };
 }
 
 impl Rings {
+    /// No ring. So many are kept at most.
     pub(crate) fn none(most: u32) -> Rings
-        ensures kept { result.kept ≡ 0 }
-        ensures most { result.most ≡ most }
+        ensures { result ≡ record { kept = 0; most = most } }
     {
         Rings { kept: 0, most }
     }
 
-    /// Keeps so many more, as far as there is room.
-    pub(crate) fn keep(&mut self, more: u32)
-        ensures kept { self.new.kept ≡ min (self.old.kept + more) self.old.most }
-        ensures most { self.new.most ≡ self.old.most }
+    /// Keeps one more, where there is room.
+    pub(crate) fn keep_one(&mut self)
+        ensures { self.new ≡ rung self.old }
     {
-        self.kept = self.kept.saturating_add(more).min(self.most);
+        self.kept = self.kept.saturating_add(1).min(self.most);
     }
 
-    /// Uses one up, where there is one.
+    /// Keeps as many as there is room for.
+    pub(crate) fn keep_all(&mut self)
+        ensures { self.new ≡ rung_for_all self.old }
+    {
+        self.kept = self.most;
+    }
+
+    /// Uses the ring up that ended a wait.
     pub(crate) fn use_one(&mut self)
-        ensures kept { self.new.kept ≡ self.old.kept - 1 }
-        ensures most { self.new.most ≡ self.old.most }
+        requires { EndsWait self.old }
+        ensures { self.new ≡ used self.old }
     {
-        self.kept = self.kept.saturating_sub(1);
+        self.kept -= 1;
     }
 
+    /// Whether none is kept.
     pub(crate) fn is_empty(&self) -> bool
-        ensures { IsTrue result ↔ (self.now.kept ≡ 0) }
+        ensures { IsTrue result ↔ ¬ (EndsWait self.now) }
     {
         self.kept == 0
-    }
-
-    /// As many as are kept at most.
-    pub(crate) fn most(&self) -> u32
-        ensures { result ≡ self.now.most }
-    {
-        self.most
     }
 }

@@ -4,6 +4,8 @@
 //! doesn't block. `Door` is what gives a server its sockets.
 #![tactic(auto)]
 
+mod backlogs;
+mod counted;
 mod doors;
 mod links;
 mod listeners;
@@ -12,6 +14,7 @@ mod outcomes;
 mod sizes;
 mod sockets;
 
+pub use counted::CountedStream;
 pub use doors::{Door, Entered, FailingDoor};
 pub use links::{Came, Link};
 pub use listeners::ListenerDoor;

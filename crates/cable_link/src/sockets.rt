@@ -1,9 +1,13 @@
-ghost use Rattle.std.specs.Prelude.{◌≡◌, ◌≤◌, IfOk, OnOk};
+ghost use Rattle.std.specs.Prelude.{◌≡◌, ◌≤◌, IfOk, OnOk, false, true};
 ghost use Rattle.cable_base.specs.Causes.{Rose};
 ghost use Rattle.cable_base.specs.Troubles.{HasTrouble};
 ghost use Rattle.cable_base.specs.declared.faults.Trouble.TheVariants as trouble;
+ghost use Rattle.cable_link.specs.Backlogs.{Leaves, WaitsSince, is_waiting, since};
+ghost use Rattle.cable_link.specs.Failures.{failed_by};
 ghost use Rattle.cable_link.specs.Sockets.{GivesNone, IsTaken};
 
+use crate::backlogs::Backlog;
+use crate::counted::CountedStream;
 use crate::links::{Came, Link};
 use crate::outcomes::{Outcome, outcome_of};
 use cable_base::{Millis, Text, Trouble};
@@ -23,27 +27,19 @@ pub enum Goodbye {
     NoMemory,
 }
 
-/// What the peer hasn't taken of that which was said.
-#[derive(Clone, Copy, Debug, PartialEq, Eq)]
-enum Backlog {
-    /// Nothing.
-    Nothing,
-    /// Something, and no moment was told since.
-    Unseen,
-    /// Something, since this moment or before.
-    Since(Millis),
-}
-
 /// A link over a socket whose stream doesn't block.
 ///
 /// No call waits: `next` is quiet where nothing is there, and what the peer doesn't take at once stands in the socket's output until `flush`
 /// hands it on. `K` gives a client's masking keys; a server has `NoMask`. A binary message is passed over, and so are a ping, which is
 /// answered, and a pong.
+///
+/// A fault is told once: behind it `next` gives that the link is closed, whatever the socket would say.
 #[derive(Drop)]
 pub struct WsLink<K> {
-    socket: WebSocket<TcpStream, K>,
+    socket: WebSocket<CountedStream, K>,
     alloc: Global,
     faults: u64,
+    has_failed: bool,
     // Nothing was there to be read when the link was last asked.
     dry: bool,
     // The message that ended the link was too long.
@@ -53,13 +49,16 @@ pub struct WsLink<K> {
 
 impl<K: MaskKeys + Drop> WsLink<K> {
     /// A link over a socket whose handshake is done and whose stream doesn't block. It has counted no fault yet.
-    pub fn on(alloc: Global, socket: WebSocket<TcpStream, K>) -> WsLink<K>
-        ensures { ⟦<WsLink<K> as Link>⟧.faults result ≡ 0 }
+    pub fn on(alloc: Global, socket: WebSocket<CountedStream, K>) -> WsLink<K>
+        ensures faults { ⟦<WsLink<K> as Link>⟧.faults result ≡ 0 }
+        ensures sound { result.has_failed ≡ false }
+        ensures waits { is_waiting result.backlog ≡ false }
     {
         WsLink {
             socket,
             alloc,
             faults: 0,
+            has_failed: false,
             dry: false,
             too_long: false,
             backlog: Backlog::Nothing,
@@ -68,7 +67,7 @@ impl<K: MaskKeys + Drop> WsLink<K> {
 
     /// Its stream, to be registered where readiness is waited for.
     pub fn stream(&mut self) -> &mut TcpStream {
-        self.socket.get_mut()
+        self.socket.get_mut().stream()
     }
 
     /// Whether nothing was there to be read when `next` was last called: it need not be called again before the stream is readable. A link
@@ -82,18 +81,33 @@ impl<K: MaskKeys + Drop> WsLink<K> {
         self.too_long
     }
 
-    /// Whether something that was said still waits in the link.
-    pub fn is_behind(&self) -> bool {
-        self.backlog != Backlog::Nothing
+    /// Whether a fault was told. Nothing comes from the link any more then.
+    pub fn has_failed(&self) -> bool
+        ensures { result ≡ self.now.has_failed }
+    {
+        self.has_failed
     }
 
-    /// The moment of the first `flush` that left something, since the peer had last taken all. `None` where nothing waits, or where
+    /// Whether something that was said still waits in the link.
+    pub fn is_behind(&self) -> bool
+        ensures { result ≡ is_waiting self.now.backlog }
+    {
+        self.backlog.is_waiting()
+    }
+
+    /// The moment of the first `flush` that left something, since the peer had last taken some of it. `None` where nothing waits, or where
     /// there was no `flush` since.
-    pub fn behind_since(&self) -> Option<Millis> {
-        match self.backlog {
-            Backlog::Since(at) => Some(at),
-            _ => None,
-        }
+    pub fn behind_since(&self) -> Option<Millis>
+        ensures { result ≡ since self.now.backlog self.now.socket.stream.taken }
+    {
+        self.backlog.since(self.taken())
+    }
+
+    /// How many bytes the peer's side has taken.
+    fn taken(&self) -> u64
+        ensures { result ≡ self.now.socket.stream.taken }
+    {
+        self.socket.get_ref().taken()
     }
 
     /// Offers what waits to the peer, at this moment of the caller's clock. What it doesn't take goes on waiting. It is refused where the
@@ -101,12 +115,16 @@ impl<K: MaskKeys + Drop> WsLink<K> {
     pub fn flush(&mut self, at: Millis) -> Result<(), Trouble>
         ensures cause { HasTrouble (⟦<WsLink<K> as Link>⟧.faults self.old) (⟦<WsLink<K> as Link>⟧.faults self.new) result }
         ensures calm { OnOk result (⟦<WsLink<K> as Link>⟧.faults self.new ≡ ⟦<WsLink<K> as Link>⟧.faults self.old) }
+        ensures failed { self.new.has_failed ≡ failed_by self.old.has_failed result }
+        ensures waits { WaitsSince at (since self.old.backlog self.old.socket.stream.taken)
+            self.old.socket.stream.taken self.new.socket.stream.taken self.new.backlog }
     {
+        let before = self.taken();
+        let told = self.behind_since();
         let flushed = self.socket.flush();
         let settled = self.settle(flushed);
-        if self.backlog == Backlog::Unseen {
-            self.backlog = Backlog::Since(at);
-        }
+        let now = self.taken();
+        self.backlog = self.backlog.flushed(at, told, before, now);
         settled
     }
 
@@ -115,6 +133,7 @@ impl<K: MaskKeys + Drop> WsLink<K> {
     pub fn close(&mut self, why: Goodbye) -> Result<(), Trouble>
         ensures cause { HasTrouble (⟦<WsLink<K> as Link>⟧.faults self.old) (⟦<WsLink<K> as Link>⟧.faults self.new) result }
         ensures calm { OnOk result (⟦<WsLink<K> as Link>⟧.faults self.new ≡ ⟦<WsLink<K> as Link>⟧.faults self.old) }
+        ensures failed { self.new.has_failed ≡ failed_by self.old.has_failed result }
     {
         let code = match why {
             Goodbye::Ended => CloseCode::Normal,
@@ -131,7 +150,10 @@ impl<K: MaskKeys + Drop> WsLink<K> {
         ensures later { self.old.faults ≤ self.new.faults }
         ensures rose { Rose self.old.faults self.new.faults }
         ensures socket { self.new.socket ≡ self.old.socket }
+        ensures failed { self.new.has_failed ≡ true }
+        ensures backlog { self.new.backlog ≡ self.old.backlog }
     {
+        self.has_failed = true;
         self.faults = self.faults.saturating_add(1);
         Trouble::Failed
     }
@@ -142,6 +164,8 @@ impl<K: MaskKeys + Drop> WsLink<K> {
         ensures ok { OnOk result (IsTaken written) }
         ensures cause { HasTrouble self.old.faults self.new.faults result }
         ensures calm { OnOk result (self.new.faults ≡ self.old.faults) }
+        ensures failed { self.new.has_failed ≡ failed_by self.old.has_failed result }
+        ensures leaves { Leaves self.old.backlog written result self.new.backlog }
     {
         let Err(error) = written else {
             self.backlog = Backlog::Nothing;
@@ -149,9 +173,7 @@ impl<K: MaskKeys + Drop> WsLink<K> {
         };
         match outcome_of(&error) {
             Outcome::Blocked => {
-                if self.backlog == Backlog::Nothing {
-                    self.backlog = Backlog::Unseen;
-                }
+                self.backlog = self.backlog.left();
                 Ok(())
             }
             Outcome::NoMemory => Err(Trouble::OutOfMemory),
@@ -163,6 +185,7 @@ impl<K: MaskKeys + Drop> WsLink<K> {
     fn reply(&mut self) -> Result<(), Trouble>
         ensures cause { HasTrouble self.old.faults self.new.faults result }
         ensures calm { OnOk result (self.new.faults ≡ self.old.faults) }
+        ensures failed { self.new.has_failed ≡ failed_by self.old.has_failed result }
     {
         let flushed = self.socket.flush();
         self.settle(flushed)
@@ -170,14 +193,14 @@ impl<K: MaskKeys + Drop> WsLink<K> {
 
     /// Hands on the reply to a close. The peer may be gone, which is no fault then.
     fn reply_to_close(&mut self)
-        ensures { self.new.faults ≡ self.old.faults }
+        ensures faults { self.new.faults ≡ self.old.faults }
+        ensures failed { self.new.has_failed ≡ self.old.has_failed }
     {
         let flushed = self.socket.flush();
         if let Err(error) = flushed
             && outcome_of(&error) == Outcome::Blocked
-            && self.backlog == Backlog::Nothing
         {
-            self.backlog = Backlog::Unseen;
+            self.backlog = self.backlog.left();
         }
     }
 
@@ -185,6 +208,7 @@ impl<K: MaskKeys + Drop> WsLink<K> {
     fn read_failed(&mut self, error: &Error) -> Result<Came, Trouble>
         ensures cause { HasTrouble self.old.faults self.new.faults result }
         ensures calm { OnOk result (self.new.faults ≡ self.old.faults) }
+        ensures failed { self.new.has_failed ≡ failed_by self.old.has_failed result }
         ensures none { IfOk result GivesNone }
     {
         match outcome_of(error) {
@@ -205,6 +229,7 @@ impl<K: MaskKeys + Drop> WsLink<K> {
 
 impl<K: MaskKeys + Drop> Link for WsLink<K> {
     ghost use Rattle.std.specs.Prelude.{None};
+    ghost use Rattle.cable_link.specs.Failures.{IsClosedBehind, failed_by};
     ghost use Rattle.cable_link.specs.Sockets.{GivesRead, HandsOn};
 
     ghost coming = { λ _. None };
@@ -213,11 +238,19 @@ impl<K: MaskKeys + Drop> Link for WsLink<K> {
 
     ghost faults = { λ l. l.faults };
 
-    ghost gives = { λ old result new. GivesRead ⟦<TcpStream as Read>⟧.remaining old.socket result new.socket };
+    ghost gives = { λ old result new.
+        GivesRead ⟦<CountedStream as Read>⟧.remaining old.socket result new.socket
+        × IsClosedBehind old.has_failed old.socket result new.socket
+        × (new.has_failed ≡ failed_by old.has_failed result) };
 
-    ghost says = { λ old text result new. HandsOn ⟦<TcpStream as Write>⟧.contents old.socket text result new.socket };
+    ghost says = { λ old text result new.
+        HandsOn ⟦<CountedStream as Write>⟧.contents old.socket text result new.socket
+        × (new.has_failed ≡ failed_by old.has_failed result) };
 
     fn next(&mut self) -> Result<Came, Trouble> {
+        if self.has_failed {
+            return Ok(Came::Closed);
+        }
         self.dry = false;
         let read = self.socket.read();
         let message = match read {

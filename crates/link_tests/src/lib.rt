@@ -6,6 +6,8 @@
 #[cfg(test)]
 mod bell_tests;
 #[cfg(test)]
+mod broken_tests;
+#[cfg(test)]
 mod cable_link_tests;
 #[cfg(test)]
 mod door_tests;

@@ -1,6 +1,6 @@
-use crate::loopback::{ClientLink, client, expect, linked, sleep};
+use crate::loopback::{ClientLink, ROUNDS, client, expect, letters, linked, next_of, sleep};
 use cable_base::{Millis, Trouble};
-use cable_link::{Came, Goodbye, Link, MESSAGE_LIMIT, OUTPUT_LIMIT, WsLink};
+use cable_link::{Came, Goodbye, Link, OUTPUT_LIMIT, WsLink};
 use std::alloc::Global;
 use std::io::{Read, Write};
 use std::net::TcpStream;
@@ -8,22 +8,13 @@ use std::test::Fail;
 use std::thread;
 use tungstenite::NoMask;
 
-/// How many times something is looked for before a test gives up, a millisecond apart.
-const ROUNDS: u32 = 20_000;
-
 /// How many long texts a server says.
 const MANY: u32 = 200;
 
 const LONG: usize = 60_000;
 
-/// A text of so many letters.
-fn letters(alloc: Global, letter: char, len: usize) -> Result<String, Fail> {
-    let mut text = String::new(alloc);
-    for _ in 0..len {
-        text.push(letter)?;
-    }
-    Ok(text)
-}
+/// How often what waits is handed on to a client that never reads.
+const FLUSHES: u64 = 100;
 
 /// Long texts of two kinds, which a server says in turn.
 #[derive(Debug, Drop)]
@@ -35,8 +26,8 @@ struct LongTexts {
 impl LongTexts {
     fn new(alloc: Global) -> Result<LongTexts, Fail> {
         Ok(LongTexts {
-            even: letters(alloc, 'a', LONG)?,
-            odd: letters(alloc, 'b', LONG)?,
+            even: letters(alloc, "a", LONG)?,
+            odd: letters(alloc, "b", LONG)?,
         })
     }
 
@@ -134,22 +125,6 @@ fn serves(rt: &HostRuntime, mut link: WsLink<NoMask>, texts: LongTexts) -> Seen 
     seen
 }
 
-/// What comes next that isn't quiet.
-fn next_of(rt: &HostRuntime, link: &mut ClientLink) -> Result<Came, Fail> {
-    for _ in 0..ROUNDS {
-        match link.next() {
-            Ok(Came::Quiet) => {
-                if link.is_dry() {
-                    sleep(rt, 1);
-                }
-            }
-            Ok(came) => return Ok(came),
-            Err(_) => return Err(Fail::from("the client's link failed")),
-        }
-    }
-    Err(Fail::from("nothing came"))
-}
-
 /// Gets all the long texts, in order.
 fn gets_many(rt: &HostRuntime, link: &mut ClientLink, texts: &LongTexts) -> Result<(), Fail> {
     for number in 0..MANY {
@@ -196,6 +171,49 @@ fn fills(link: &mut WsLink<NoMask>, text: &str) -> usize {
     said
 }
 
+/// Hands on what waits, a millisecond apart. Answers since when the client has taken none of it.
+fn hands_on(rt: &HostRuntime, link: &mut WsLink<NoMask>) -> Option<Millis> {
+    for at in 0..FLUSHES {
+        if link.flush(Millis(at)).is_err() {
+            return None;
+        }
+        sleep(rt, 1);
+    }
+    link.behind_since()
+}
+
+/// What a server's end saw of a client that never reads.
+#[derive(Debug, Drop)]
+struct Starved {
+    /// Whether texts waited, and a moment since then wasn't known before the first flush.
+    was_behind: bool,
+    /// Since when the client had taken nothing, at the last flush.
+    since: Option<Millis>,
+    /// Whether nothing came, while texts waited.
+    was_quiet: bool,
+    /// How many texts were said before one was refused.
+    said: usize,
+    /// Whether the link was closed then.
+    was_closed: bool,
+}
+
+/// Says many texts to a client that never reads, hands on what it takes for a while, and then says more until one is refused.
+fn starves(rt: &HostRuntime, mut link: WsLink<NoMask>, texts: LongTexts) -> Starved {
+    let waits = says_many(&mut link, &texts) == Ok(true);
+    let was_behind = waits && link.behind_since().is_none();
+    let since = hands_on(rt, &mut link);
+    let was_quiet = link.next() == Ok(Came::Quiet) && link.is_dry();
+    let said = fills(&mut link, texts.at(0)).saturating_add(MANY as usize);
+    let was_closed = link.next() == Ok(Came::Closed);
+    Starved {
+        was_behind,
+        since,
+        was_quiet,
+        said,
+        was_closed,
+    }
+}
+
 #[test]
 fn both_ends_of_a_link_over_loopback(rt: HostRuntime) -> Result<(), Fail> {
     let alloc = rt.alloc();
@@ -212,71 +230,16 @@ fn both_ends_of_a_link_over_loopback(rt: HostRuntime) -> Result<(), Fail> {
     assert!(rt; seen.was_behind);
     assert!(rt; seen.closed);
 
-    let (mut link, _mute) = linked(&rt)?;
-    let said = fills(&mut link, texts.at(0));
-    assert!(rt; said >= OUTPUT_LIMIT / LONG);
-    assert!(rt; said < 2 * OUTPUT_LIMIT / LONG);
-    assert!(rt; link.is_behind());
-    assert_eq!(rt; link.behind_since(), None);
-    assert_eq!(rt; link.flush(Millis(5)), Ok(()));
-    assert_eq!(rt; link.flush(Millis(9)), Ok(()));
-    assert_eq!(rt; link.behind_since(), Some(Millis(5)));
-    assert!(rt; matches!(link.next(), Ok(Came::Quiet)));
+    let (link, mute) = linked(&rt)?;
+    let (at_server, said) = (rt.clone()?, LongTexts::new(alloc)?);
+    let server = thread::spawn(&rt, move || starves(&at_server, link, said))?;
+    let starved = server.join(&rt);
+    drop(mute);
+    assert!(rt; starved.was_behind && starved.was_quiet && starved.was_closed);
+    assert!(rt; matches!(starved.since, Some(at) if at < Millis(FLUSHES / 2)));
+    assert!(rt; starved.said >= OUTPUT_LIMIT / LONG);
+    assert!(rt; starved.said < 2 * OUTPUT_LIMIT / LONG);
     Ok(())
-}
-
-/// A text that is longer than a command may be is given; one beyond the limit of a link is a fault, and the client is told so.
-#[test]
-fn a_message_beyond_the_limit_is_a_fault(rt: HostRuntime) -> Result<(), Fail> {
-    let alloc = rt.alloc();
-    let (mut link, there) = linked(&rt)?;
-    let mut client = client(&rt, &there)?;
-    let longest = letters(alloc, 'a', MESSAGE_LIMIT)?;
-    assert!(rt; client.say(longest.as_str()).is_ok());
-    assert!(rt;
-        matches!(come_of(&rt, &mut link, &mut client), Ok(Came::Text(text)) if text.as_str() == longest.as_str())
-    );
-    let longer = letters(alloc, 'a', MESSAGE_LIMIT + 1)?;
-    assert!(rt; client.say(longer.as_str()).is_ok());
-    assert!(rt; matches!(come_of(&rt, &mut link, &mut client), Err(Trouble::Failed)));
-    assert!(rt; link.is_too_long());
-    assert!(rt; link.close(Goodbye::TooLong).is_ok());
-    assert!(rt; matches!(link.next(), Ok(Came::Closed)));
-    assert_eq!(rt; next_of(&rt, &mut client)?, Came::Closed);
-    Ok(())
-}
-
-/// What comes next that isn't quiet, while the client's output is handed on.
-fn come_of(
-    rt: &HostRuntime,
-    link: &mut WsLink<NoMask>,
-    client: &mut ClientLink,
-) -> Result<Came, Trouble> {
-    for _ in 0..ROUNDS {
-        client.flush(Millis(0))?;
-        match link.next()? {
-            Came::Quiet => sleep(rt, 1),
-            came => return Ok(came),
-        }
-    }
-    Ok(Came::Quiet)
-}
-
-/// What is answered to these bytes and the end of the stream, behind what is quiet: the first two answers.
-fn answers_to(
-    rt: &HostRuntime,
-    bytes: &[u8],
-) -> Result<(Result<Came, Trouble>, Result<Came, Trouble>), Fail> {
-    let (mut link, mut there) = linked(rt)?;
-    there.write_all(bytes)?;
-    drop(there);
-    for _ in 0..ROUNDS {
-        match link.next() {
-            Ok(Came::Quiet) => sleep(rt, 1),
-            first => return Ok((first, link.next())),
-        }
-    }
-    Err(Fail::from("nothing came"))
 }
 
 /// What a client reads of so many bytes that the server said.
@@ -284,6 +247,22 @@ fn read_by<const N: usize>(there: &mut TcpStream) -> Result<[u8; N], Fail> {
     let mut bytes = [0u8; N];
     there.read_exact(&mut bytes)?;
     Ok(bytes)
+}
+
+/// The moment since when a client has taken nothing stays while it takes nothing, and is a new one once it has taken some.
+#[test]
+fn a_slow_client_begins_anew_where_it_takes_some(rt: HostRuntime) -> Result<(), Fail> {
+    let (mut link, mut there) = linked(&rt)?;
+    assert!(rt; says_many(&mut link, &LongTexts::new(rt.alloc())?)?);
+    assert!(rt; matches!(hands_on(&rt, &mut link), Some(at) if at < Millis(FLUSHES / 2)));
+    for _ in 0..1000u32 {
+        read_by::<1000>(&mut there)?;
+    }
+    sleep(&rt, 20);
+    assert_eq!(rt; link.flush(Millis(5000)), Ok(()));
+    assert!(rt; link.is_behind());
+    assert_eq!(rt; link.behind_since(), Some(Millis(5000)));
+    Ok(())
 }
 
 /// A ping is answered at once, and a close says why, by the codes of RFC 6455 (section 7.4.1).
@@ -304,25 +283,6 @@ fn pongs_and_closes_as_they_are_sent(rt: HostRuntime) -> Result<(), Fail> {
         let [high, low] = code.to_be_bytes();
         assert_eq!(rt; read_by::<4>(&mut there)?, [0x88, 0x02, high, low]);
         assert_eq!(rt; link.say("late"), Err(Trouble::Failed));
-    }
-    Ok(())
-}
-
-/// A frame without a mask, one of no known kind, a text that isn't UTF-8, the end inside a frame, and the end without a close are each told
-/// once as a fault; behind it the link is closed.
-#[test]
-fn a_broken_stream_is_told_once(rt: HostRuntime) -> Result<(), Fail> {
-    let broken = [
-        &[0x81u8, 0x01, b'a'] as &[u8],
-        &[0x83, 0x80, 0, 0, 0, 0],
-        &[0x81, 0x81, 0, 0, 0, 0, 0xff],
-        &[0x81, 0x82, 0, 0, 0, 0, b'h'],
-        &[],
-    ];
-    for bytes in &broken {
-        let (first, then) = answers_to(&rt, bytes)?;
-        assert_eq!(rt; first, Err(Trouble::Failed));
-        assert_eq!(rt; then, Ok(Came::Closed));
     }
     Ok(())
 }

@@ -66,6 +66,27 @@ fn admits(
 }
 
 #[test]
+fn a_request_is_admitted_with_its_token_and_protocol_or_denied(
+    rt: HostRuntime,
+) -> Result<(), Fail> {
+    let alloc = rt.alloc();
+    let open = rules(alloc, &[])?;
+    let listed = "actioncable-v1-json, actioncable-unsupported";
+    let own = Request::get(alloc, "/cable?token=t1")
+        .header("Sec-WebSocket-Protocol", listed)
+        .body(())?;
+    assert!(rt; admits(alloc, &own, &open, "t1", Some(Protocol::V1)));
+    let posted = Request::post(alloc, "/cable?token=t1").body(())?;
+    assert!(rt; denies(alloc, &posted, &open, Denial::WrongMethod));
+    let other = Request::get(alloc, "/other").body(())?;
+    assert!(rt; denies(alloc, &other, &open, Denial::WrongPath));
+    let closed = rules(alloc, &["http://a"])?;
+    let foreign = from_page(alloc, "GET", "/cable", "http://b")?;
+    assert!(rt; denies(alloc, &foreign, &closed, Denial::ForeignOrigin));
+    Ok(())
+}
+
+#[test]
 fn the_first_rule_that_is_broken_denies(rt: HostRuntime) -> Result<(), Fail> {
     let alloc = rt.alloc();
     let closed = rules(alloc, &["http://a"])?;

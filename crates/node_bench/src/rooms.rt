@@ -19,7 +19,7 @@ use table_core::{MemKeeper, Table};
 const ASKS: u64 = 1_000;
 
 /// A subscription of the room to which the rows go, and one of another room.
-const IN_THE_ROOM: &str =
+pub const IN_THE_ROOM: &str =
     "{\"command\":\"subscribe\",\"identifier\":\"{\\\"channel\\\":\\\"Chat\\\",\\\"room\\\":1}\"}";
 
 const ELSEWHERE: &str =
@@ -136,6 +136,14 @@ fn measure_on<R: Print + Eprint + Clock, L: Ledger>(
     Ok(())
 }
 
+/// A table without rows.
+pub fn empty_table(alloc: Global) -> Result<Table<MemKeeper>, Stop> {
+    match Table::start(alloc, MemKeeper::empty(alloc)) {
+        Ok(table) => Ok(table),
+        Err(_) => Err(Stop::Refused),
+    }
+}
+
 /// Measures a node with these connections.
 pub fn measure<R: Print + Eprint + Clock, L: Ledger>(
     rt: &R,
@@ -144,9 +152,7 @@ pub fn measure<R: Print + Eprint + Clock, L: Ledger>(
     room: Room,
 ) -> Result<(), Stop> {
     let book = book(alloc, room.conns)?;
-    let Ok(mut table) = Table::start(alloc, MemKeeper::empty(alloc)) else {
-        return Err(Stop::Refused);
-    };
+    let mut table = empty_table(alloc)?;
     let mut node = Node::boot(alloc, NodeNo(1), RowId(0))?;
     measure_on(rt, alloc, &mut node, &book, &mut table, steps, room)
 }

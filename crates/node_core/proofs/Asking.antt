@@ -115,7 +115,7 @@ turn-out caught k node past at x =
 
 -- once no turn is out, no room for its Deliver is needed
 pub no-room : (past : List Step) (j : JournalState) → is_out past ≡ false → HasTurnRoom past j
-no-room past j over = record { log = λ o. absurd (cc (over, o)); beside = λ o. absurd (cc (over, o)) }
+no-room past j over = record { room = λ o. absurd (cc (over, o)) }
 
 module _ {past : List Step} {v : Numbers} {outs : OutboxesState} {k : CursorState} {holds : HoldMap} {ws : List Wanted} {taken : ℕ} where
   -- a missed turn moves nothing

@@ -1,16 +1,9 @@
--- A log that grows by an entry is the journal with this entry laid on it.
-use Rattle.std.proofs.Common.{◌≡◌, ◌+◌, List, [], ◌∷◌, ◌++◌, length, Result, Ok, Err, IsOk, IfOk, OnOk, refl, arith}
+-- What a log lays, and what a call promises where it succeeds.
+use Rattle.std.proofs.Common.{◌≡◌, ◌+◌, List, [], ◌∷◌, length, Result, Ok, Err, IsOk, IfOk, OnOk, arith}
 use Rattle.cable_model.specs.declared.journals.Beside.{Beside}
 use Rattle.cable_model.specs.declared.journals.Entry.{Entry}
 use Rattle.cable_model.specs.Journal.{laid, step_of}
 use Rattle.cable_model.specs.Steps.{Step}
-
-pub laid-push : (past : List Step) (log : List Entry) (beside : List Beside) (e : Entry) (b : Beside) → length log ≡ length beside
-    → laid past (log ++ e ∷ []) (beside ++ b ∷ []) ≡ step_of e b ∷ laid past log beside
-laid-push past [] [] e b even = refl
-laid-push past [] (y ∷ bs) e b even = absurd cc
-laid-push past (x ∷ es) [] e b even = absurd cc
-laid-push past (x ∷ es) (y ∷ bs) e b even = laid-push (step_of x y ∷ past) es bs e b (omega (arith, even))
 
 -- a log with as many things beside it lays an entry for each of its own
 pub laid-length : (past : List Step) (log : List Entry) (beside : List Beside) → length log ≡ length beside → length (laid past log beside) ≡ length past + length log

@@ -2,6 +2,8 @@ pub mod Keeping
 pub mod Queueing
 pub mod Pinging
 pub mod Telling
+pub mod Beginning
+pub mod Logging
 pub mod Standing
 pub mod Speaking
 pub mod Openings

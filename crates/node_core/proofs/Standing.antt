@@ -131,13 +131,13 @@ module _ {past : List Step} {v : Numbers} {outs : OutboxesState} {k : CursorStat
 -- ---- the room for the Deliver of a turn that is out
 
 -- more room, and the same journal
-pub room-stays : (j new : JournalState) → HasTurnRoom (past_of j.kept) j → new.kept ≡ j.kept → j.log_spare ≤ new.log_spare → j.beside_spare ≤ new.beside_spare → HasTurnRoom (past_of new.kept) new
-room-stays j new h kept log beside = subst (λ (k : Kept). HasTurnRoom (past_of k) new) (sym kept) (record { log = λ o. (let a = h.log o in omega arith); beside = λ o. (let a = h.beside o in omega arith) })
+pub room-stays : (j new : JournalState) → HasTurnRoom (past_of j.kept) j → new.kept ≡ j.kept → j.spare ≤ new.spare → HasTurnRoom (past_of new.kept) new
+room-stays j new h kept stays = subst (λ (k : Kept). HasTurnRoom (past_of k) new) (sym kept) (record { room = λ o. (let a = h.room o in omega arith) })
 
 -- an entry takes one of the two that there was room for
-pub room-left : (past : List Step) (j new : JournalState) → 2 ≤ j.log_spare → 2 ≤ j.beside_spare → new.log_spare + 1 ≡ j.log_spare → new.beside_spare + 1 ≡ j.beside_spare → HasTurnRoom past new
-room-left past j new log beside a b = record { log = λ o. omega arith; beside = λ o. omega arith }
+pub room-left : (past : List Step) (j new : JournalState) → 2 ≤ j.spare → j.spare ≤ new.spare + 1 → HasTurnRoom past new
+room-left past j new room spare = record { room = λ o. omega arith }
 
 -- no turn is out on a node that booted
 pub no-turn : (past : List Step) (last : ℕ) (j : JournalState) → past ≡ Step.Boot last ∷ [] → HasTurnRoom past j
-no-turn past last j booted = rw booted (record { log = λ o. absurd cc; beside = λ o. absurd cc })
+no-turn past last j booted = rw booted (record { room = λ o. absurd cc })

@@ -29,10 +29,11 @@ use Rattle.node_seats.proofs.Onward.{entries}
 use Rattle.poll_turn.specs.Turns.{CursorState}
 use Rattle.run_queue.specs.ReadyLists.{has_number}
 use Rattle.subscriber_map.specs.HoldMaps.{HoldMap}
-use Rattle.node_core.specs.Nodes.{NodeState, Stands, AreReady, GoesOn, ForgetsNone, ReadsSame, TakesNone}
+use Rattle.node_core.specs.Nodes.{NodeState, Stands, AreReady, GoesOn, ForgetsNone, Logs, ReadsSame, TakesNone}
 use Rattle.node_core.specs.Nodes as nodes
 use Rattle.node_core.specs.Opening.{OpensAs}
 use Rattle.node_core.specs.Serving.{Refreshes, conns_of}
+use Rattle.node_core.proofs.Logging.{logs-none}
 use Rattle.node_core.proofs.Refreshing.{filter-among, has-first, has-one, looks-none}
 use Rattle.node_core.proofs.TakingJobs.{errand-if, errand-is, takes-first}
 use Rattle.node_core.proofs.Telling.{worked}
@@ -104,9 +105,10 @@ module _ {v : Numbers} {outs : OutboxesState} {k : CursorState} {holds : HoldMap
   -- an entry was made, and these were looked at
   pub goes-on : (before : Numbers) (looked mid : List ConnNo) → Stands (nodes.past new) v outs k holds ws taken → TakesNone old new → ForgetsNone old new
       → Alike looked before v → AreReady before old.ready
-      → mid ≡ old.ready → Refreshes v looked mid new.ready → GoesOn old new
-  goes-on before looked mid h none unforgotten alike are same look =
+      → mid ≡ old.ready → Refreshes v looked mid new.ready → Logs old new → GoesOn old new
+  goes-on before looked mid h none unforgotten alike are same look logged =
       record {
+        logged = logged;
         taken = none;
         forgotten = unforgotten;
         served = in-order before v looked old.ready mid new.ready alike are same look (nodes.past new) (may-is h);
@@ -116,6 +118,7 @@ module _ {v : Numbers} {outs : OutboxesState} {k : CursorState} {holds : HoldMap
   pub goes-nowhere : Stands (nodes.past old) v outs k holds ws taken → AreReady v old.ready → ReadsSame old new → GoesOn old new
   goes-nowhere h are same =
       record {
+        logged = logs-none old new same.kept same.stored;
         taken = same.taken;
         forgotten = same.forgotten;
         served = in-order v v [] old.ready old.ready new.ready (λ c e. refl) are refl (looks-none v old.ready new.ready same.ready) (nodes.past new)

@@ -6,6 +6,7 @@ use Rattle.cable_model.specs.Possible.{can_take}
 use Rattle.cable_model.specs.Steps.{Step}
 use Rattle.node_core.specs.Jobs.{JobState, IsJob}
 use Rattle.node_core.specs.Nodes.{NodeState, GoesOn, past}
+use Rattle.node_core.proofs.Logging.{logs-none}
 
 pub takes-first-ready : {E : Type 0} (n m : NodeState) (conn : ConnNo) (r : Result (Option JobState) E) → Some conn ≡ slice_get n.ready 0
     → IfOk r (λ j. past m ≡ cond (is_some j) (Step.Take conn.0 ∷ past n) (past n)) → IfOk r (λ o. (j : JobState) → o ≡ Some j → (j.conn ≡ conn) × IsJob j m)
@@ -20,7 +21,7 @@ takes-first-ready n m conn (Ok o) first grown job = λ j is.
 
 -- where none is ready, none becomes it
 pub none-served : (n : NodeState) → None ≡ slice_get n.ready 0 → GoesOn n n
-none-served n none = record { taken = λ c. refl; forgotten = λ c. refl; served = by-list n.ready none }
+none-served n none = record { logged = logs-none n n refl refl; taken = λ c. refl; forgotten = λ c. refl; served = by-list n.ready none }
   where
     by-list : (ns : List ConnNo) → None ≡ slice_get ns 0 → (more : List ConnNo) × (ns ≡ filter (λ (c : ConnNo). can_take c.0 (past n)) ns ++ more)
     by-list [] e = ([], refl)

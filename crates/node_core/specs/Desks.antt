@@ -1,16 +1,19 @@
 -- What a node is to its sessions, its workers and its listener: one relation for each call, which is the call's event.
-use Rattle.std.specs.Prelude.{◌≡◌, ◌≤◌, ◌+◌, ◌==◌, ◌∷◌, ℕ, Bool, true, false, cond, not, suc, List, Option, Some, None, is_some, length, slice_get, Result, IfOk, IfErr, IsOk, OnOk, OnErr, MatchOption}
+use Rattle.std.specs.Prelude.{◌≡◌, ◌≤◌, ◌+◌, ◌==◌, ◌∷◌, ℕ, Bool, true, false, cond, not, suc, List, Option, Some, None, is_some, option_map, length, slice_get, Result, IfOk, IfErr, IsOk, OnOk, OnErr, MatchOption}
 use Rattle.cable_base.specs.declared.faults.OutOfMemory.{OutOfMemory}
 use Rattle.cable_base.specs.declared.numbers.ConnNo.{ConnNo}
+use Rattle.cable_model.specs.Journal as journals
 use Rattle.cable_model.specs.Possible.{can_drop, can_take, is_out, is_over, last_turn}
 use Rattle.cable_model.specs.Steps.{Step}
 use Rattle.cable_model.specs.Transcript.{queued}
 use Rattle.conn_seat.specs.declared.outs.Out.{Out}
 use Rattle.poll_turn.specs.Notes.{note_in}
 use Rattle.poll_turn.specs.Turns.{CaughtState, TurnState}
+use Rattle.node_log.specs.Logs.{cut_from}
 use Rattle.node_core.specs.Arriving.{RefusesText, text_fault}
 use Rattle.node_core.specs.Forgetting.{may_forget}
 use Rattle.node_core.specs.Jobs.{Fits, IsJob, JobState, WorkState}
+use Rattle.node_core.specs.Journals.{told}
 use Rattle.node_core.specs.Nodes.{GoesOn, HasReady, NodeState, ReadsSame, TakesNone, is_forgotten, line_on, past, taken_out}
 use Rattle.node_core.specs.Opening.{RefusesOpen, open_fault}
 use Rattle.node_core.specs.Turned.{IsNextTurn, is_expected}
@@ -68,6 +71,7 @@ pub record Finishes (old : NodeState) (work : WorkState) (result : Result (Unit 
 pub record TakesOut (old : NodeState) (conn : ConnNo) (result : Option Out) (new : NodeState) : Type 0 where
   pub number : new.no ≡ old.no
   pub kept : new.kept ≡ old.kept
+  pub stored : new.stored ≡ old.stored
   pub out : MatchOption result (length (queued conn.0 (past old)) ≤ taken_out conn.0 old)
       (λ out. slice_get (queued conn.0 (past old)) (taken_out conn.0 old) ≡ Some (line_on conn.0 out))
   pub taken : MatchOption result (taken_out conn.0 new ≡ taken_out conn.0 old) (λ _. taken_out conn.0 new ≡ taken_out conn.0 old + 1)
@@ -79,10 +83,12 @@ pub record TakesOut (old : NodeState) (conn : ConnNo) (result : Option Out) (new
 abbrev pub TellsOver : NodeState → ConnNo → Bool → Type 0
 TellsOver n conn answer = answer ≡ is_over conn.0 (past n)
 
--- only that the connection is forgotten changes
+-- only that the connection is forgotten changes, and its entries are no longer in the log that is stored
 pub record ForgetsOne (old : NodeState) (conn : ConnNo) (new : NodeState) : Type 0 where
   pub number : new.no ≡ old.no
   pub kept : new.kept ≡ old.kept
+  pub stored : new.stored ≡ option_map (cut_from conn.0) old.stored
+  pub cut : told new.stored ≡ journals.cut conn.0 (told old.stored)
   pub taken : TakesNone old new
   pub forgotten : is_forgotten conn.0 new ≡ true
   pub others : (c : ℕ) → (c == conn.0) ≡ false → is_forgotten c new ≡ is_forgotten c old

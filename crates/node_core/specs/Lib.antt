@@ -8,3 +8,4 @@ pub mod Finishing
 pub mod Serving
 pub mod Forgetting
 pub mod Desks
+pub mod Resetting

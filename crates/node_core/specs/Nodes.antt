@@ -1,6 +1,6 @@
 -- What a node is: its journal, how many of the texts and notes of each connection were taken out, and in which order connections are served.
 -- All else that it keeps is what the journal says.
-use Rattle.std.specs.Prelude.{◌≡◌, ◌<◌, ◌≤◌, ◌/◌, ℕ, Bool, true, List, [], ◌∷◌, ◌++◌, length, map, filter, drop}
+use Rattle.std.specs.Prelude.{◌≡◌, ◌<◌, ◌≤◌, ◌/◌, ℕ, Bool, true, List, [], ◌∷◌, ◌++◌, Option, option_map, length, map, filter, drop}
 use Rattle.cable_base.specs.declared.numbers.ConnNo.{ConnNo}
 use Rattle.cable_base.specs.declared.numbers.NodeNo.{NodeNo}
 use Rattle.cable_json.specs.Texts.{ping_text}
@@ -27,7 +27,10 @@ use Rattle.node_core.specs.Journals.{JournalState}
 
 pub record NodeState : Type 0 where
   pub no : NodeNo
+  -- the history of all entries, which clauses alone read
   pub kept : Kept
+  -- the log that is stored, if one is
+  pub stored : Option Kept
   pub outs : OutboxesState
   -- the connections of which a piece can be taken, first in, first out
   pub ready : List ConnNo
@@ -72,8 +75,7 @@ BringsMessages (_ ∷ past) = BringsMessages past
 
 -- while a turn is out there is room for the entry of its Deliver
 pub record HasTurnRoom (past : List Step) (journal : JournalState) : Type 0 where
-  pub log : is_out past ≡ true → 0 < journal.log_spare
-  pub beside : is_out past ≡ true → 0 < journal.beside_spare
+  pub room : is_out past ≡ true → 0 < journal.spare
 
 -- what a node keeps stands for this journal
 pub record Stands (past : List Step) (seats : Numbers) (outs : OutboxesState) (cursor : CursorState) (holds : HoldMap) (wants : List Wanted) (taken : ℕ) : Type 0 where
@@ -107,8 +109,19 @@ ForgetsNone old new = (c : ℕ) → is_forgotten c new ≡ is_forgotten c old
 abbrev pub ServedInOrder : NodeState → NodeState → Type 0
 ServedInOrder old new = (more : List ConnNo) × (new.ready ≡ filter (λ (c : ConnNo). can_take c.0 (past new)) old.ready ++ more)
 
+-- more entries behind the others
+abbrev pub joined : Kept → Kept → Kept
+joined more k = record { log = k.log ++ more.log; beside = k.beside ++ more.beside }
+
+-- what the history gained, the log gained that is stored, and nothing else
+pub record Logs (old new : NodeState) : Type 0 where
+  pub more : Kept
+  pub history : new.kept ≡ joined more old.kept
+  pub log : new.stored ≡ option_map (joined more) old.stored
+
 -- what each call keeps, whatever it enters
 pub record GoesOn (old new : NodeState) : Type 0 where
+  pub logged : Logs old new
   pub taken : TakesNone old new
   pub forgotten : ForgetsNone old new
   pub served : ServedInOrder old new
@@ -116,6 +129,7 @@ pub record GoesOn (old new : NodeState) : Type 0 where
 -- nothing happened: the journal is as before, nothing was taken out, none was forgotten, and the same are ready
 pub record ReadsSame (old new : NodeState) : Type 0 where
   pub kept : new.kept ≡ old.kept
+  pub stored : new.stored ≡ old.stored
   pub taken : TakesNone old new
   pub forgotten : ForgetsNone old new
   pub ready : new.ready ≡ old.ready

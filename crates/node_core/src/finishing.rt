@@ -76,10 +76,9 @@ fn make_room(
     ensures wanted_taken { wants.new.taken ≡ wants.old.taken }
     ensures wants_room { OnOk result (makes plan.now.change ≤ wants.new.spare) }
     ensures kept { journal.new.kept ≡ journal.old.kept }
-    ensures log_room { OnOk result (2 ≤ journal.new.log_spare) }
-    ensures beside_room { OnOk result (2 ≤ journal.new.beside_spare) }
-    ensures log_stays { journal.old.log_spare ≤ journal.new.log_spare }
-    ensures beside_stays { journal.old.beside_spare ≤ journal.new.beside_spare }
+    ensures stored { journal.new.stored ≡ journal.old.stored }
+    ensures log_room { OnOk result (2 ≤ journal.new.spare) }
+    ensures log_stays { journal.old.spare ≤ journal.new.spare }
     ensures prepares { OnOk result (Moves conn.0 (Lives (Prepares plan.now.change)) seats.old.entries seats.new.entries) }
     ensures err { OnErr result (seats.new.entries ≡ seats.old.entries) }
 {

@@ -1,4 +1,7 @@
-ghost use Rattle.std.specs.Prelude.{◌≡◌, ◌==◌, ℕ, true, false};
+ghost use Rattle.std.specs.Prelude.{◌≡◌, ◌==◌, ℕ, true, false, option_map};
+ghost use Rattle.cable_model.specs.Journal.{cut};
+ghost use Rattle.node_log.specs.Logs.{cut_from};
+ghost use Rattle.node_core.specs.Journals.{told};
 ghost use Rattle.node_core.specs.Forgetting.{is_drained, may_forget};
 ghost use Rattle.node_core.specs.Nodes.{TakesNone, is_forgotten};
 
@@ -22,17 +25,21 @@ impl Node {
     }
 
     /// Forgets a connection that is over and of which all was taken out: the memory of its queue is given back, and only how many were
-    /// taken out stays. Its number stays used: the journal is as before, so `open_conn` goes on answering `Used` and `is_over` true. It
-    /// takes no memory, and is no entry.
+    /// taken out stays. Its entries are taken out of the log that is stored, which tells its journal without them then. Its number stays
+    /// used: the node's journal is as before, so `open_conn` goes on answering `Used` and `is_over` true. It takes no memory, and is no
+    /// entry.
     pub fn forget(&mut self, conn: ConnNo)
         requires { may_forget conn.0 self.old ≡ true }
         ensures no { self.new.no ≡ self.old.no }
         ensures kept { self.new.kept ≡ self.old.kept }
+        ensures stored { self.new.stored ≡ option_map (cut_from conn.0) self.old.stored }
+        ensures cut { told self.new.stored ≡ cut conn.0 (told self.old.stored) }
         ensures taken { TakesNone self.old self.new }
         ensures forgotten { is_forgotten conn.0 self.new ≡ true }
         ensures others { (c : ℕ) → (c == conn.0) ≡ false → is_forgotten c self.new ≡ is_forgotten c self.old }
         ensures ready { self.new.ready ≡ self.old.ready }
     {
         self.seats.forget(conn);
+        self.journal.cut(conn);
     }
 }

@@ -10,6 +10,7 @@ mod jobs;
 mod journals;
 mod nodes;
 mod opening;
+mod resetting;
 mod serving;
 mod turns;
 mod working;

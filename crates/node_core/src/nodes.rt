@@ -1,8 +1,10 @@
-ghost use Rattle.std.specs.Prelude.{◌≡◌, ◌≤◌, ◌+◌, ◌∷◌, [], ℕ, Some, true, false, ◌==◌, IfOk, MatchOption, length, slice_get};
+ghost use Rattle.std.specs.Prelude.{◌≡◌, ◌≤◌, ◌+◌, ◌∷◌, [], ℕ, None, Some, true, false, ◌==◌, IfOk, MatchOption, length, slice_get};
+ghost use Rattle.cable_model.specs.Journal.{past_of};
 ghost use Rattle.cable_model.specs.Legal.{Legal};
 ghost use Rattle.cable_model.specs.Possible.{can_take, is_over};
 ghost use Rattle.cable_model.specs.Steps.{Step};
 ghost use Rattle.cable_model.specs.Transcript.{queued};
+ghost use Rattle.node_core.specs.Journals.{beside_in, log_in, told};
 ghost use Rattle.node_core.specs.Nodes.{HasReady, is_forgotten, line_on, past, taken_out};
 
 use crate::journals::Journal;
@@ -38,7 +40,7 @@ impl Model for Node {
 
     ghost Value = { NodeState };
 
-    ghost view = { λ n. record { no = n.no; kept = n.journal.kept; outs = n.seats.outs; ready = n.ready.waiting } };
+    ghost view = { λ n. record { no = n.no; kept = n.journal.kept; stored = n.journal.stored; outs = n.seats.outs; ready = n.ready.waiting } };
 
     ghost invariant = { λ n. record {
       stands : Stands (past_of n.journal.kept) n.seats.entries n.seats.outs n.cursor n.holders n.wants.wanted n.wants.taken;
@@ -48,16 +50,17 @@ impl Model for Node {
 }
 
 impl Node {
-    /// A node of this number, whose listener begins behind the table's last row. None of its connections is forgotten.
-    pub fn boot(alloc: Global, no: NodeNo, last: RowId) -> Result<Node, OutOfMemory>
-        ensures no { IfOk result (λ n. n.no ≡ no) }
-        ensures booted { IfOk result (λ n. past n ≡ Step.Boot last.0 ∷ []) }
-        ensures taken { IfOk result (λ n. (c : ℕ) → taken_out c n ≡ 0) }
-        ensures ready { IfOk result (λ n. n.ready ≡ []) }
-        ensures none_forgotten { IfOk result (λ n. (c : ℕ) → is_forgotten c n ≡ false) }
+    /// A node with this journal, which begins at the table's last row.
+    fn begin(alloc: Global, no: NodeNo, last: RowId, journal: Journal) -> Node
+        requires { past_of journal.kept ≡ Step.Boot last.0 ∷ [] }
+        ensures no { result.no ≡ no }
+        ensures kept { result.kept ≡ journal.kept }
+        ensures stored { result.stored ≡ journal.stored }
+        ensures taken { (c : ℕ) → taken_out c result ≡ 0 }
+        ensures ready { result.ready ≡ [] }
+        ensures none_forgotten { (c : ℕ) → is_forgotten c result ≡ false }
     {
-        let journal = Journal::begin(alloc, last)?;
-        Ok(Node {
+        Node {
             alloc,
             no,
             journal,
@@ -66,24 +69,50 @@ impl Node {
             holders: SubscriberMap::empty(alloc),
             wants: Wants::empty(alloc),
             ready: Ready::empty(alloc),
-        })
+        }
     }
 
-    /// Its log: an entry for each call that changed it, in order. With what is kept beside each entry it tells the node's journal, which is
-    /// legal. It takes no memory.
+    /// A node of this number, whose listener begins behind the table's last row. None of its connections is forgotten. It stores its log,
+    /// which grows with each call that changes it.
+    pub fn boot(alloc: Global, no: NodeNo, last: RowId) -> Result<Node, OutOfMemory>
+        ensures no { IfOk result (λ n. n.no ≡ no) }
+        ensures booted { IfOk result (λ n. past n ≡ Step.Boot last.0 ∷ []) }
+        ensures stored { IfOk result (λ n. n.stored ≡ Some n.kept) }
+        ensures taken { IfOk result (λ n. (c : ℕ) → taken_out c n ≡ 0) }
+        ensures ready { IfOk result (λ n. n.ready ≡ []) }
+        ensures none_forgotten { IfOk result (λ n. (c : ℕ) → is_forgotten c n ≡ false) }
+    {
+        let journal = Journal::begin(alloc, last)?;
+        Ok(Node::begin(alloc, no, last, journal))
+    }
+
+    /// As `boot`, but it stores no log: what its calls answer is the same, and no entry takes memory. It takes none.
+    pub fn boot_unlogged(alloc: Global, no: NodeNo, last: RowId) -> Node
+        ensures no { result.no ≡ no }
+        ensures booted { past result ≡ Step.Boot last.0 ∷ [] }
+        ensures stored { result.stored ≡ None }
+        ensures taken { (c : ℕ) → taken_out c result ≡ 0 }
+        ensures ready { result.ready ≡ [] }
+        ensures none_forgotten { (c : ℕ) → is_forgotten c result ≡ false }
+    {
+        Node::begin(alloc, no, last, Journal::unlogged(last))
+    }
+
+    /// The log that it stores, in order: behind `boot` an entry for each call that changed it. With what is kept beside each entry it tells
+    /// a journal. It is empty where no log is stored. The node's own journal is legal. It takes no memory.
     pub fn log(&self) -> &[Entry]
-        ensures log { result.now ≡ self.now.kept.log }
+        ensures log { result.now ≡ log_in self.now.stored }
         ensures legal { Legal (past self.now) }
-        ensures paired { length self.now.kept.log ≡ length self.now.kept.beside }
-        ensures whole { length self.now.kept.log ≡ length (past self.now) }
+        ensures paired { length (log_in self.now.stored) ≡ length (beside_in self.now.stored) }
+        ensures whole { length (log_in self.now.stored) ≡ length (told self.now.stored) }
     {
         self.journal.entries()
     }
 
-    /// How many entries its log has, which are as many as its journal has. It takes no memory.
+    /// How many entries the log has that it stores, which are as many as the journal has that it tells. It takes no memory.
     pub fn log_len(&self) -> u64
-        ensures log { result ≡ length self.now.kept.log }
-        ensures whole { result ≡ length (past self.now) }
+        ensures log { result ≡ length (log_in self.now.stored) }
+        ensures whole { result ≡ length (told self.now.stored) }
     {
         self.journal.entries().len() as u64
     }
@@ -110,6 +139,7 @@ impl Node {
     pub fn take_out(&mut self, conn: ConnNo) -> Option<Out>
         ensures no { self.new.no ≡ self.old.no }
         ensures kept { self.new.kept ≡ self.old.kept }
+        ensures stored { self.new.stored ≡ self.old.stored }
         ensures out { MatchOption result (length (queued conn.0 (past self.old)) ≤ taken_out conn.0 self.old)
             (λ out. slice_get (queued conn.0 (past self.old)) (taken_out conn.0 self.old) ≡ Some (line_on conn.0 out)) }
         ensures taken { MatchOption result (taken_out conn.0 self.new ≡ taken_out conn.0 self.old)

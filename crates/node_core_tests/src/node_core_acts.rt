@@ -25,7 +25,9 @@ pub enum Act {
     IsOver(ConnNo, bool),
     /// Forgets a connection, where it may be forgotten.
     Forgets(ConnNo, bool),
-    /// The log begins with the boot behind this row, and has so many entries.
+    /// Lets the log begin again, where it may. Where none is stored it always may, and nothing happens.
+    Resets(bool),
+    /// The log begins with the boot behind this row, and has so many entries. Where none is stored it is empty.
     Logs(RowId, u64),
     /// Opens as many connections as are live at most.
     OpensAll,
@@ -84,7 +86,10 @@ fn receives(node: &Node, conn: ConnNo) -> bool {
     }
 }
 
-fn logs(node: &Node, last: RowId, entries: u64) -> bool {
+fn logs(node: &Node, stores: bool, last: RowId, entries: u64) -> bool {
+    if !stores {
+        return node.log().is_empty() && node.log_len() == 0;
+    }
     node.log().first() == Some(&Entry::Boot { last }) && node.log_len() == entries
 }
 
@@ -154,6 +159,15 @@ fn forgets(node: &mut Node, conn: ConnNo) -> bool {
     true
 }
 
+/// Lets the log begin again, where it may.
+fn resets(node: &mut Node) -> bool {
+    if !node.may_reset() {
+        return false;
+    }
+    node.reset_log();
+    true
+}
+
 /// Whether there is no piece to take.
 fn is_idle(node: &mut Node) -> bool {
     match node.take_next() {
@@ -219,8 +233,8 @@ fn works(node: &mut Node, book: &Book, conn: ConnNo) -> bool {
     }
 }
 
-/// Makes a call, and tells whether it answers what it has to.
-fn does(node: &mut Node, alloc: Global, book: &Book, act: &Act) -> bool {
+/// Makes a call of a node that stores its log or doesn't, and tells whether it answers what it has to.
+fn does(node: &mut Node, stores: bool, alloc: Global, book: &Book, act: &Act) -> bool {
     match act {
         Act::Opens(conn, token) => node.open_conn(*conn, token, book).is_ok(),
         Act::CannotOpen(conn, why) => node.open_conn(*conn, "t1", book) == Err(*why),
@@ -234,7 +248,8 @@ fn does(node: &mut Node, alloc: Global, book: &Book, act: &Act) -> bool {
         Act::IsSilent(conn) => node.take_out(*conn).is_none(),
         Act::IsOver(conn, over) => node.is_over(*conn) == *over,
         Act::Forgets(conn, done) => forgets(node, *conn) == *done,
-        Act::Logs(last, entries) => logs(node, *last, *entries),
+        Act::Resets(done) => resets(node) == (*done || !stores),
+        Act::Logs(last, entries) => logs(node, stores, *last, *entries),
         Act::OpensAll => opens_all(node, book),
         Act::HearsAll(conn) => hears_all(node, *conn),
         Act::CannotHearLong(conn, why) => cannot_hear_long(node, alloc, *conn, *why),
@@ -248,10 +263,16 @@ fn does(node: &mut Node, alloc: Global, book: &Book, act: &Act) -> bool {
     }
 }
 
-/// The place of the first call that answers something else.
-pub fn first_fault(node: &mut Node, alloc: Global, book: &Book, acts: &[Act]) -> Option<usize> {
+/// The place of the first call that answers something else, on a node that stores its log or doesn't.
+pub fn first_fault(
+    node: &mut Node,
+    stores: bool,
+    alloc: Global,
+    book: &Book,
+    acts: &[Act],
+) -> Option<usize> {
     for (place, act) in acts.iter().enumerate() {
-        if !does(node, alloc, book, act) {
+        if !does(node, stores, alloc, book, act) {
             return Some(place);
         }
     }

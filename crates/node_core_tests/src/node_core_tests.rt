@@ -58,19 +58,42 @@ const STOPS: [Act; 9] = [
     Act::CannotHear(ANN, ArriveFault::Unknown),
 ];
 
-/// What is over is forgotten once all that was queued on it was taken out. Its number stays used.
-const FORGETS: [Act; 11] = [
+/// What is over is forgotten once all that was queued on it was taken out, and the log has none of its entries. Its number stays used.
+const FORGETS: [Act; 13] = [
     Act::Opens(ANN, "t1"),
     Act::Opens(NOBODY, "t2"),
     Act::Forgets(NOBODY, false),
     Act::Says(NOBODY, UNAUTHORIZED),
     Act::Says(ANN, WELCOME),
     Act::Forgets(ANN, false),
+    Act::Logs(RowId(7), 3),
     Act::Forgets(NOBODY, true),
+    Act::Logs(RowId(7), 2),
     Act::Forgets(NOBODY, false),
     Act::CannotOpen(NOBODY, OpenFault::Used),
     Act::IsOver(NOBODY, true),
     Act::IsSilent(NOBODY),
+];
+
+/// The log begins again once each of its connections was forgotten.
+const BEGINS_AGAIN: [Act; 17] = [
+    Act::Opens(ANN, "t1"),
+    Act::Opens(NOBODY, "t2"),
+    Act::Says(NOBODY, UNAUTHORIZED),
+    Act::Forgets(NOBODY, true),
+    Act::Resets(false),
+    Act::Says(ANN, WELCOME),
+    Act::Goes(ANN, true),
+    Act::Beats(5_000),
+    Act::Works(ANN),
+    Act::Logs(RowId(7), 6),
+    Act::Forgets(ANN, true),
+    Act::Logs(RowId(7), 2),
+    Act::Resets(true),
+    Act::Logs(RowId(7), 1),
+    Act::CannotOpen(ANN, OpenFault::Used),
+    Act::Opens(BEN, "t1"),
+    Act::Logs(RowId(7), 2),
 ];
 
 /// Those that wait are taken in the order in which they became ready.
@@ -139,11 +162,14 @@ const IS_FULL: [Act; 3] = [
     Act::CannotOpen(ConnNo(1_000), OpenFault::Full),
 ];
 
-/// The place of the first call that answers something else, on a node that was booted behind the row 7.
+/// The place of the first call that answers something else, on a node that was booted behind the row 7: on one that stores its log, and on
+/// one that doesn't.
 fn fault_in(alloc: Global, acts: &[Act]) -> Result<Option<usize>, Fail> {
     let book = Book::read(alloc, CLUB)?;
     let mut node = Node::boot(alloc, NodeNo(1), RowId(7))?;
-    Ok(first_fault(&mut node, alloc, &book, acts))
+    let mut unlogged = Node::boot_unlogged(alloc, NodeNo(1), RowId(7));
+    let fault = first_fault(&mut node, true, alloc, &book, acts);
+    Ok(fault.or(first_fault(&mut unlogged, false, alloc, &book, acts)))
 }
 
 #[test]
@@ -180,6 +206,12 @@ fn refuses_texts(rt: HostRuntime) -> Result<(), Fail> {
 #[test]
 fn forgets_one(rt: HostRuntime) -> Result<(), Fail> {
     assert_eq!(rt; fault_in(rt.alloc(), &FORGETS)?, None);
+    Ok(())
+}
+
+#[test]
+fn begins_again(rt: HostRuntime) -> Result<(), Fail> {
+    assert_eq!(rt; fault_in(rt.alloc(), &BEGINS_AGAIN)?, None);
     Ok(())
 }
 

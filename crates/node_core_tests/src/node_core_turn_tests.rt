@@ -33,6 +33,15 @@ const GETS_A_ROW: [Act; 5] = [
     Act::Logs(RowId(5), 15),
 ];
 
+/// The log begins again where the last turn that found something ended.
+const LEAVES: [Act; 5] = [
+    Act::Goes(ANN, true),
+    Act::Works(ANN),
+    Act::Forgets(ANN, true),
+    Act::Resets(true),
+    Act::Logs(RowId(9), 1),
+];
+
 /// The turn found one row of the club.
 fn found(alloc: Global, turn: Turn, id: u64) -> Result<Caught, Turn> {
     let (Ok(channel), Ok(Some(payload))) = (Name::new(alloc, "club"), payload(alloc, "1")) else {
@@ -77,12 +86,12 @@ fn asks_none(node: &mut Node) -> bool {
     }
 }
 
-/// Makes a turn that is missed, while which no other can be asked.
+/// Makes a turn that is missed, while which no other can be asked and the log can't begin again.
 fn misses<L: Ledger>(node: &mut Node, steps: &mut Steps<L>) -> bool {
     let Ok(Some(turn)) = node.ask() else {
         return false;
     };
-    let none = asks_none(node);
+    let none = asks_none(node) && !node.may_reset();
     delivers(node, steps, turn.missed()) && none
 }
 
@@ -109,14 +118,21 @@ fn finds<L: Ledger>(
 
 /// A missed turn takes no want. The next one places the stream: a row of its own is passed over, and the confirmation comes. From then on
 /// rows come: the connection's own name and the club's are asked for.
-fn turns<L: Ledger>(node: &mut Node, alloc: Global, book: &Book, steps: &mut Steps<L>) -> bool {
-    first_fault(node, alloc, book, &SUBSCRIBES).is_none()
+fn turns<L: Ledger>(
+    node: &mut Node,
+    stores: bool,
+    alloc: Global,
+    book: &Book,
+    steps: &mut Steps<L>,
+) -> bool {
+    first_fault(node, stores, alloc, book, &SUBSCRIBES).is_none()
         && misses(node, steps)
-        && first_fault(node, alloc, book, &WAITS).is_none()
+        && first_fault(node, stores, alloc, book, &WAITS).is_none()
         && finds(node, steps, alloc, 8, 0)
-        && first_fault(node, alloc, book, &IS_CONFIRMED).is_none()
+        && first_fault(node, stores, alloc, book, &IS_CONFIRMED).is_none()
         && finds(node, steps, alloc, 9, 2)
-        && first_fault(node, alloc, book, &GETS_A_ROW).is_none()
+        && first_fault(node, stores, alloc, book, &GETS_A_ROW).is_none()
+        && first_fault(node, stores, alloc, book, &LEAVES).is_none()
 }
 
 fn run<L: Ledger>(rt: &impl Abort, alloc: Global, blank: Blank) -> Result<(), Fail>
@@ -127,7 +143,9 @@ fn run<L: Ledger>(rt: &impl Abort, alloc: Global, blank: Blank) -> Result<(), Fa
     let mut steps = Steps::<L>::begin(blank);
     let book = Book::read(alloc, CLUB)?;
     let mut node = Node::boot(alloc, NodeNo(1), RowId(5))?;
-    assert!(rt; turns(&mut node, alloc, &book, &mut steps));
+    assert!(rt; turns(&mut node, true, alloc, &book, &mut steps));
+    let mut unlogged = Node::boot_unlogged(alloc, NodeNo(1), RowId(5));
+    assert!(rt; turns(&mut unlogged, false, alloc, &book, &mut steps));
     Ok(())
 }
 

@@ -14,6 +14,8 @@ const ANN: ConnNo = ConnNo(7);
 
 const BEN: ConnNo = ConnNo(3);
 
+const CAT: ConnNo = ConnNo(9);
+
 /// A number that isn't opened.
 const NOBODY: ConnNo = ConnNo(5);
 
@@ -40,6 +42,10 @@ enum Act {
     /// Forgets the connection, where it is over and nothing is queued on it.
     Forgets(ConnNo, bool),
     IsForgotten(ConnNo, bool),
+    /// Puts the piece of a stop on each live connection.
+    Stops,
+    /// Just these are live and not closing, in this order.
+    Lists(&'static [ConnNo]),
 }
 
 fn text(alloc: Global, text: &str) -> Result<Out, OutOfMemory> {
@@ -127,6 +133,15 @@ fn forgets(seats: &mut Seats, conn: ConnNo) -> bool {
     true
 }
 
+fn stops(seats: &mut Seats) -> bool {
+    seats.stop();
+    true
+}
+
+fn lists(seats: &Seats, alloc: Global, conns: &[ConnNo]) -> Result<bool, OutOfMemory> {
+    Ok(seats.receiving(alloc)?.as_slice() == conns)
+}
+
 /// Makes a call, and tells whether it answers what it has to.
 fn does(seats: &mut Seats, alloc: Global, act: Act) -> Result<bool, OutOfMemory> {
     match act {
@@ -141,6 +156,8 @@ fn does(seats: &mut Seats, alloc: Global, act: Act) -> Result<bool, OutOfMemory>
         Act::IsOver(conn, is_so) => Ok(seats.is_over(conn) == is_so),
         Act::Forgets(conn, done) => Ok(forgets(seats, conn) == done),
         Act::IsForgotten(conn, is_so) => Ok(seats.is_forgotten(conn) == is_so),
+        Act::Stops => Ok(stops(seats)),
+        Act::Lists(conns) => lists(seats, alloc, conns),
     }
 }
 
@@ -243,6 +260,30 @@ fn forgets_one_of_two(rt: HostRuntime) -> Result<(), Fail> {
         Act::IsForgotten(ANN, false),
         Act::IsForgotten(NOBODY, false),
         Act::Hears(ANN, "hello"),
+    ];
+    assert_eq!(rt; first_fault(rt.alloc(), acts.as_slice())?, None);
+    Ok(())
+}
+
+/// A connection is listed by its number from its opening to its end, whatever was opened and ended meanwhile.
+#[test]
+fn lists_the_live_ones(rt: HostRuntime) -> Result<(), Fail> {
+    let acts = [
+        Act::Lists(&[]),
+        Act::Opens(ANN, "hello"),
+        Act::Opens(BEN, "hello"),
+        Act::Lists(&[BEN, ANN]),
+        Act::Ends(ANN, "bye"),
+        Act::Lists(&[BEN]),
+        Act::Refuses(ConnNo(4), "no"),
+        Act::Opens(CAT, "hello"),
+        Act::Lists(&[BEN, CAT]),
+        Act::Ends(BEN, "bye"),
+        Act::Lists(&[CAT]),
+        Act::Stops,
+        Act::Lists(&[]),
+        Act::IsOver(CAT, false),
+        Act::IsOver(ANN, true),
     ];
     assert_eq!(rt; first_fault(rt.alloc(), acts.as_slice())?, None);
     Ok(())

@@ -4,11 +4,11 @@ use Rattle.std.specs.Prelude.{option_map}
 use Rattle.std.specs.Ordering.{nat_cmp, match_ordering}
 use Rattle.std.specs.declared.cmp.Ordering.{Ordering}
 use Rattle.std.specs.declared.cmp.Ordering.TheVariants as order
-use Rattle.std.specs.BTreeMap.{BTreeMap, WritesThrough, get_by, is_at, insert_entry}
+use Rattle.std.specs.BTreeMap.{is_at, insert_entry}
 use Rattle.std.specs.Map.{lookup, set_value, keys_of}
 use Rattle.std.proofs.lemmas.Map.Made.{lookup-map_values}
 use Rattle.std.proofs.lemmas.Map.Steps.{set_value_same}
-use Rattle.node_seats.proofs.Lookups.{found-there, found-elsewhere}
+use Rattle.node_seats.proofs.Lookups.{at-each, found-there, found-elsewhere}
 
 module _ {S B : Type 0} (f : S → B) where
   abbrev pub mapped : List (ℕ × S) → List (ℕ × B)
@@ -57,14 +57,17 @@ module _ {B : Type 0} (c : ℕ) (kept became : B) (v new : List (ℕ × B)) (w :
   pub others-now : (d : ℕ) → (c ≡ d → ⊥) → lookup (is_at (nat_cmp d)) new ≡ lookup (is_at (nat_cmp d)) v
   others-now d apart = ap (lookup (is_at (nat_cmp d))) w.now ∙ found-elsewhere c d became v apart
 
+  pub at-written : (d : ℕ) → lookup (is_at (nat_cmp d)) new ≡ cond (is_at (nat_cmp c) d) (Some became) (lookup (is_at (nat_cmp d)) v)
+  at-written d = at-each c d became v new found-now (others-now d)
+
   -- the same thing, so that nothing changes
   pub same-now : became ≡ kept → new ≡ v
   same-now same = w.now ∙ set_value_same (is_at (nat_cmp c)) v became (w.found ∙ ap (λ (o : B). Some o) (sym same))
 
 -- what was written over a value of a map
-pub over : {S : Type 0} (c : ℕ) (m n : BTreeMap ℕ S) (kept became : S) → get_by (nat_cmp c) m ≡ Some kept → WritesThrough nat_cmp (nat_cmp c) m became n
-    → Written c kept became m.entries n.entries
-over c m n kept became at through = record { found = at; now = through.0 }
+pub wrote : {S : Type 0} (c : ℕ) (kept became : S) (v new : List (ℕ × S)) → Some kept ≡ lookup (is_at (nat_cmp c)) v
+    → new ≡ set_value (is_at (nat_cmp c)) v became → Written c kept became v new
+wrote c kept became v new at now = record { found = sym at; now = now }
 
 -- .. shows
 pub face : {S B : Type 0} (f : S → B) (c : ℕ) (kept became : S) (v new : List (ℕ × S)) → Written c kept became v new

@@ -3,6 +3,7 @@ pub mod Faces
 pub mod Moving
 pub mod Stopping
 pub mod Onward
+pub mod Living
 pub mod Counting
 pub mod Entries
 pub mod Opening

@@ -1,7 +1,8 @@
 -- What is found under a number, behind what calls make of the others.
-use Rattle.std.proofs.Common.{◌≡◌, ℕ, ◌==◌, Bool, true, false, cond, ◌||◌, List, [], ◌∷◌, Some, None, refl, sym, ap, ◌∙◌, arith}
+use Rattle.std.proofs.Common.{◌≡◌, ℕ, ◌==◌, Bool, true, false, cond, ◌||◌, List, [], ◌∷◌, Some, None, refl, sym, ap, subst, ◌∙◌, arith}
 use Rattle.std.specs.Prelude.{ltb}
-use Rattle.std.specs.List.{list_any}
+use Rattle.std.specs.List.{AllByRecursion, list_any}
+use Rattle.std.specs.List.Sorted.{IsStrictlySortedBy}
 use Rattle.std.specs.Ordering.{nat_cmp, is_eq, match_ordering}
 use Rattle.std.specs.declared.cmp.Ordering.{Ordering}
 use Rattle.std.specs.declared.cmp.Ordering.TheVariants as order
@@ -27,6 +28,11 @@ at-one c d x apart at =
     other : (b : Bool) → (x == d) ≡ b → (x == c) ≡ true → b ≡ false
     other true f e = absurd (apart (grind (arith, nat_tests)))
     other false f e = refl
+
+-- a number below all these isn't among them
+pub below-all : (c : ℕ) (ks : List ℕ) → AllByRecursion (λ k. nat_cmp c k ≡ order.Less) ks → list_any (is_at (nat_cmp c)) ks ≡ false
+below-all c [] below = refl
+below-all c (k ∷ ks) below = let l = below.0 in rw l (below-all c ks below.1)
 
 -- ---- a number that was opened
 
@@ -85,6 +91,45 @@ new-there c o v = insert-there c nat_cmp (is_at (nat_cmp c)) o (at-self c) (λ x
 pub new-elsewhere : {B : Type 0} (c d : ℕ) (o : B) (v : List (ℕ × B)) → (c ≡ d → ⊥)
     → lookup (is_at (nat_cmp d)) (insert_entry nat_cmp v c o) ≡ lookup (is_at (nat_cmp d)) v
 new-elsewhere c d o v apart = insert-elsewhere c nat_cmp (is_at (nat_cmp d)) o (at-one c d c apart (at-self c)) (λ x. at-one c d x apart) v
+
+-- ---- of all numbers
+
+-- what is found is what is kept of c, and else what was found
+module _ {B : Type 0} (c d : ℕ) (o : B) (v now : List (ℕ × B)) (there : lookup (is_at (nat_cmp c)) now ≡ Some o)
+    (elsewhere : (c ≡ d → ⊥) → lookup (is_at (nat_cmp d)) now ≡ lookup (is_at (nat_cmp d)) v) where
+  pub at-each : lookup (is_at (nat_cmp d)) now ≡ cond (is_at (nat_cmp c) d) (Some o) (lookup (is_at (nat_cmp d)) v)
+  at-each = by-test (is_at (nat_cmp c) d) refl
+    where
+      by-test : (b : Bool) → is_at (nat_cmp c) d ≡ b → lookup (is_at (nat_cmp d)) now ≡ cond b (Some o) (lookup (is_at (nat_cmp d)) v)
+      by-test true at = let same : c ≡ d = grind (arith, nat_tests, at) in subst (λ (x : ℕ). lookup (is_at (nat_cmp x)) now ≡ Some o) same there
+      by-test false at = elsewhere (λ same. absurd (let t = at-self c in let no_way : true ≡ false = sym t ∙ ap (is_at (nat_cmp c)) same ∙ at in cc))
+
+pub at-new : {B : Type 0} (c d : ℕ) (o : B) (v : List (ℕ × B))
+    → lookup (is_at (nat_cmp d)) (insert_entry nat_cmp v c o) ≡ cond (is_at (nat_cmp c) d) (Some o) (lookup (is_at (nat_cmp d)) v)
+at-new c d o v = at-each c d o v (insert_entry nat_cmp v c o) (new-there c o v) (new-elsewhere c d o v)
+
+-- ---- what is found under each
+
+gone : {B : Type 0} (c : ℕ) (v : List (ℕ × B)) → AllByRecursion (λ k. nat_cmp c k ≡ order.Less) (keys_of v) → lookup (is_at (nat_cmp c)) v ≡ None
+gone c [] below = refl
+gone c (e ∷ es) below = let l = below.0 in rw l (gone c es below.1)
+
+-- what holds of what is found holds of each entry
+pub each-entry : {B : Type 0} (P : ℕ → B → Type 0) (v : List (ℕ × B)) → IsStrictlySortedBy nat_cmp (keys_of v)
+    → ((c : ℕ) (o : B) → lookup (is_at (nat_cmp c)) v ≡ Some o → P c o) → AllByRecursion (λ (e : ℕ × B). P e.0 e.1) v
+unfolding IsStrictlySortedBy
+each-entry {B} P [] rising h = tt
+each-entry {B} P (e ∷ es) rising h = (
+  h e.0 e.1 (let t = at-self e.0 in rw t refl),
+  each-entry P es rising.1 (λ c o at. h c o (by-test c o (is_at (nat_cmp c) e.0) refl at)),
+)
+  where
+    by-test : (c : ℕ) (o : B) (b : Bool) → is_at (nat_cmp c) e.0 ≡ b → lookup (is_at (nat_cmp c)) es ≡ Some o
+        → cond b (Some e.1) (lookup (is_at (nat_cmp c)) es) ≡ Some o
+    by-test c o true is at =
+        let same : e.0 ≡ c = grind (arith, nat_tests, is) in
+        absurd (let no_way : None ≡ Some o = sym (gone e.0 es rising.0) ∙ ap (λ (x : ℕ). lookup (is_at (nat_cmp x)) es) same ∙ at in cc)
+    by-test c o false is at = at
 
 below-is : (c d : ℕ) → nat_cmp c d ≡ order.Less → ltb d c ≡ false
 below-is c d e = grind (arith, nat_tests, e)

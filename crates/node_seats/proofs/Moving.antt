@@ -1,27 +1,26 @@
 -- What a call on one number leaves of the others.
-use Rattle.std.proofs.Common.{◌≡◌, ◌≤◌, ℕ, ◌+◌, ◌-◌, Result, Ok, Err, Bool, true, false, cond, [], ◌∷◌, Option, Some, None, refl, sym, ap, subst, ◌∙◌, arith}
-use Rattle.std.specs.Prelude.{unwrap_or, option_map, OnOk, OnErr}
-use Rattle.cable_base.specs.declared.faults.OutOfMemory.{OutOfMemory}
-use Rattle.cable_model.specs.declared.plans.Change.{Change}
+use Rattle.std.proofs.Common.{◌≡◌, ℕ, Result, Ok, Err, Bool, true, false, cond, [], ◌∷◌, Option, Some, None, refl, sym, ap, subst, ◌∙◌, arith}
+use Rattle.std.specs.Prelude.{OnOk, OnErr, is_some}
 use Rattle.std.proofs.lemmas.Map.{keys-set_value}
 use Rattle.std.specs.Ordering.{nat_cmp, match_ordering}
 use Rattle.std.specs.List.Sorted.{IsStrictlySortedBy}
 use Rattle.std.specs.declared.cmp.Ordering.{Ordering}
 use Rattle.std.specs.declared.cmp.Ordering.TheVariants as order
 use Rattle.std.specs.BTreeMap.{is_at, insert_entry}
+use Rattle.std.specs.BTreeSet.{BTreeSet, contains}
 use Rattle.std.specs.Map.{lookup, set_value, keys_of}
-use Rattle.std.proofs.lemmas.Map.Entries.{sum_by-set_value, sum_by-insert_entry}
-use Rattle.std.specs.Cmp.{nat_cmp_total}
-use Rattle.node_seats.specs.Numbers.{Numbers, Opened, Moves, opened_at, live_among, weight, with_new, Rising, Finished, CanRestart, CanRestartAll}
+use Rattle.std.proofs.lemmas.Bool.Decides.{nat_tests}
+use Rattle.cable_base.specs.declared.faults.OutOfMemory.{OutOfMemory}
+use Rattle.cable_model.specs.declared.plans.Change.{Change}
+use Rattle.conn_seat.specs.Seats.{Seated}
+use Rattle.node_seats.specs.Numbers.{Numbers, Opened, Moves, opened_at, seat_at, seat_in, weight, with_new, Rising, Finished, CanRestart, CanRestartAll}
 use Rattle.node_seats.specs.Inside.{IsTidy}
-use Rattle.node_seats.proofs.Faces.{Written}
+use Rattle.node_seats.proofs.Faces.{Written, at-written}
+use Rattle.node_seats.proofs.Lookups.{at-new}
 
 -- what is written over what was found
 pub moves : (By : Opened → Opened → Type 0) (c : ℕ) (kept became : Opened) (v new : Numbers) → Written c kept became v new → By kept became → Moves c By v new
 moves By c kept became v new w by = record { kept = kept; became = became; found = w.found; moved = by; now = w.now }
-
-weights : (c : ℕ) (kept became : Opened) (v new : Numbers) → Written c kept became v new → live_among new + weight kept ≡ live_among v + weight became
-weights c kept became v new w = ap (λ es. live_among es + weight kept) w.now ∙ sum_by-set_value weight (is_at (nat_cmp c)) v kept became w.found
 
 rises : (c : ℕ) (kept became : Opened) (v new : Numbers) → Written c kept became v new → Rising v → Rising new
 rises c kept became v new w rising = subst (IsStrictlySortedBy nat_cmp) (sym (ap keys_of w.now ∙ keys-set_value (is_at (nat_cmp c)) v became)) rising
@@ -60,61 +59,103 @@ room-new (e ∷ es) c kept can new = by-order (nat_cmp c e.0) (room-new es c kep
 pub room-of : (c : ℕ) (kept : Opened) (v : Numbers) → opened_at c v ≡ Some kept → CanRestartAll v → CanRestart kept
 room-of c kept v at can = room-at (is_at (nat_cmp c)) v kept can at
 
-roomy-with : (c : ℕ) (kept became : Opened) (v new : Numbers) → Written c kept became v new → (CanRestart kept → CanRestart became) → CanRestartAll v
+pub roomy-with : (c : ℕ) (kept became : Opened) (v new : Numbers) → Written c kept became v new → (CanRestart kept → CanRestart became) → CanRestartAll v
     → CanRestartAll new
 roomy-with c kept became v new w keeps can =
     subst CanRestartAll (sym w.now) (room-with (is_at (nat_cmp c)) v became can (keeps (room-of c kept v w.found can)))
 
+-- ---- which are live
+
+live-of : (test : Bool) (o : Opened) (p : Option Opened) → is_some (seat_in (cond test (Some o) p))
+    ≡ cond test (is_some (seat_in (Some o))) (is_some (seat_in p))
+live-of true o p = refl
+live-of false o p = refl
+
+-- that of c is live exactly if b is true, and each other one exactly if it was
+abbrev Lives-at : ℕ → Bool → Numbers → Numbers → Type 0
+Lives-at c b v new = (d : ℕ) → cond (is_at (nat_cmp c) d) b (is_some (seat_at d v)) ≡ is_some (seat_at d new)
+
+live-written : (c : ℕ) (kept became : Opened) (v new : Numbers) → Written c kept became v new → Lives-at c (is_some (seat_in (Some became))) v new
+live-written c kept became v new w d =
+    sym (live-of (is_at (nat_cmp c) d) became (opened_at d v)) ∙ ap (λ o. is_some (seat_in o)) (sym (at-written c kept became v new w d))
+
+live-new : (c : ℕ) (o : Opened) (v new : Numbers) → new ≡ with_new c o v → Lives-at c (is_some (seat_in (Some o))) v new
+live-new c o v new is d =
+    sym (live-of (is_at (nat_cmp c) d) o (opened_at d v)) ∙ ap (λ p. is_some (seat_in p)) (sym (at-new c d o v))
+    ∙ ap (λ (x : Numbers). is_some (seat_at d x)) (sym is)
+
+-- .. as it was
+live-as-before : (c : ℕ) (b : Bool) (v : Numbers) → is_some (seat_at c v) ≡ b → Lives-at c b v v
+live-as-before c b v was d = by-test (is_at (nat_cmp c) d) refl
+  where
+    by-test : (t : Bool) → is_at (nat_cmp c) d ≡ t → cond t b (is_some (seat_at d v)) ≡ is_some (seat_at d v)
+    by-test true at = let same : c ≡ d = grind (arith, nat_tests, at) in sym was ∙ ap (λ (x : ℕ). is_some (seat_at x v)) same
+    by-test false at = refl
+
+live-by-weight : (kept became : Opened) → weight became ≡ weight kept → is_some (seat_in (Some kept)) ≡ is_some (seat_in (Some became))
+live-by-weight (Opened.Live s) (Opened.Live t) same = refl
+live-by-weight (Opened.Live s) Opened.Over same = absurd cc
+live-by-weight Opened.Over (Opened.Live t) same = absurd cc
+live-by-weight Opened.Over Opened.Over same = refl
+
+over-by-weight : (o : Opened) → weight o ≡ 0 → is_some (seat_in (Some o)) ≡ false
+over-by-weight (Opened.Live s) none = absurd cc
+over-by-weight Opened.Over none = refl
+
 -- ---- all of what holds
 
-pub tidy : (c count : ℕ) (kept became : Opened) (v new : Numbers) → Written c kept became v new → weight became ≡ weight kept
-    → (CanRestart kept → CanRestart became) → IsTidy v count → IsTidy new count
-tidy c count kept became v new w same keeps is =
+pub tidy : (c : ℕ) (live : BTreeSet ℕ) (kept became : Opened) (v new : Numbers) → Written c kept became v new → weight became ≡ weight kept
+    → (CanRestart kept → CanRestart became) → IsTidy v live → IsTidy new live
+tidy c live kept became v new w same keeps is =
+    let was = ap (λ o. is_some (seat_in o)) w.found ∙ live-by-weight kept became same in
     record {
       rising = rises c kept became v new w is.rising;
-      counted = omega (arith, is.counted, weights c kept became v new w, same);
+      indexed = λ d. is.indexed d ∙ sym (live-as-before c _ v was d) ∙ live-written c kept became v new w d;
       roomy = roomy-with c kept became v new w keeps is.roomy;
     }
 
--- a number more
-pub tidy-new : (c count more : ℕ) (kept : Opened) (v new : Numbers) → opened_at c v ≡ None → new ≡ with_new c kept v → Rising new → more ≡ count + weight kept
-    → CanRestart kept → IsTidy v count → IsTidy new more
-tidy-new c count more kept v new none is rising sum can tidy_is =
-    let weighs : live_among new ≡ live_among (with_new c kept v) = ap live_among is in
-    let before : unwrap_or (option_map weight (opened_at c v)) 0 ≡ 0 = ap (λ (o : Option Opened). unwrap_or (option_map weight o) 0) none in
+-- a live connection more, whose number is entered
+pub tidy-opened : (c : ℕ) (live now : BTreeSet ℕ) (seat : Seated) (v new : Numbers) → new ≡ with_new c (Opened.Live seat) v → Rising new
+    → ((d : ℕ) → contains nat_cmp now d ≡ cond (is_at (nat_cmp c) d) true (contains nat_cmp live d)) → CanRestart (Opened.Live seat)
+    → IsTidy v live → IsTidy new now
+tidy-opened c live now seat v new is rising entered can before =
     record {
       rising = rising;
-      counted = omega (arith, sum, tidy_is.counted, weighs, before, sum_by-insert_entry weight nat_cmp_total v c kept tidy_is.rising);
-      roomy = subst CanRestartAll (sym is) (room-new v c kept tidy_is.roomy can);
+      indexed = λ d. entered d ∙ ap (cond (is_at (nat_cmp c) d) true) (before.indexed d) ∙ live-new c (Opened.Live seat) v new is d;
+      roomy = subst CanRestartAll (sym is) (room-new v c (Opened.Live seat) before.roomy can);
     }
 
-pub tidy-refused : (c count : ℕ) (v new : Numbers) (result : Result (Unit {0}) OutOfMemory) → opened_at c v ≡ None
-    → OnOk result (new ≡ with_new c Opened.Over v) → OnErr result (new ≡ v) → Rising new → IsTidy v count → IsTidy new count
-tidy-refused c count v new (Ok u) none is same rising tidy_is = tidy-new c count count Opened.Over v new none is rising (omega arith) tt tidy_is
-tidy-refused c count v new (Err e) none is same rising tidy_is = rw same tidy_is
+-- a number more, which is over
+pub tidy-refused : (c : ℕ) (live : BTreeSet ℕ) (v new : Numbers) (result : Result (Unit {0}) OutOfMemory) → opened_at c v ≡ None
+    → OnOk result (new ≡ with_new c Opened.Over v) → OnErr result (new ≡ v) → Rising new → IsTidy v live → IsTidy new live
+tidy-refused c live v new (Ok u) none is same rising before =
+    record {
+      rising = rising;
+      indexed = λ d. before.indexed d ∙ sym (live-as-before c false v (ap (λ o. is_some (seat_in o)) none) d) ∙ live-new c Opened.Over v new is d;
+      roomy = subst CanRestartAll (sym is) (room-new v c Opened.Over before.roomy tt);
+    }
+tidy-refused c live v new (Err e) none is same rising before = rw same before
 
 -- ---- the end of a connection
+
+-- its number is taken out
+pub tidy-over : (c : ℕ) (live now : BTreeSet ℕ) (kept became : Opened) (v new : Numbers) → Written c kept became v new → weight became ≡ 0
+    → ((d : ℕ) → contains nat_cmp now d ≡ cond (is_at (nat_cmp c) d) false (contains nat_cmp live d)) → (CanRestart kept → CanRestart became)
+    → IsTidy v live → IsTidy new now
+tidy-over c live now kept became v new w over taken keeps is =
+    record {
+      rising = rises c kept became v new w is.rising;
+      indexed =
+          λ d. taken d ∙ ap (cond (is_at (nat_cmp c) d) false) (is.indexed d)
+          ∙ ap (λ b. cond (is_at (nat_cmp c) d) b (is_some (seat_at d v))) (sym (over-by-weight became over)) ∙ live-written c kept became v new w d;
+      roomy = roomy-with c kept became v new w keeps is.roomy;
+    }
 
 finished-weight : (change : Change) (kept became : Opened) → Finished change kept became → weight kept ≡ 1
 finished-weight change (Opened.Live seat) became f = refl
 finished-weight change Opened.Over became f = absurd f
 
-pub tidy-over : (change : Change) (c count : ℕ) (kept became : Opened) (v new : Numbers) → Written c kept became v new → Finished change kept became
-    → weight became ≡ 0 → (CanRestart kept → CanRestart became) → IsTidy v count → IsTidy new (count - 1)
-tidy-over change c count kept became v new w finished over keeps is =
-    record {
-      rising = rises c kept became v new w is.rising;
-      counted = omega (arith, is.counted, weights c kept became v new w, over, finished-weight change kept became finished);
-      roomy = roomy-with c kept became v new w keeps is.roomy;
-    }
-
--- it was counted
-pub was-counted : (change : Change) (c count : ℕ) (kept became : Opened) (v new : Numbers) → Written c kept became v new → Finished change kept became
-    → weight became ≡ 0 → IsTidy v count → 1 ≤ count
-was-counted change c count kept became v new w finished over is =
-    omega (arith, is.counted, weights c kept became v new w, over, finished-weight change kept became finished)
-
-pub tidy-finished : (change : Change) (c count : ℕ) (kept became : Opened) (v new : Numbers) → Written c kept became v new → Finished change kept became
-    → weight became ≡ 1 → (CanRestart kept → CanRestart became) → IsTidy v count → IsTidy new count
-tidy-finished change c count kept became v new w finished live keeps is =
-    tidy c count kept became v new w (live ∙ sym (finished-weight change kept became finished)) keeps is
+pub tidy-finished : (change : Change) (c : ℕ) (live : BTreeSet ℕ) (kept became : Opened) (v new : Numbers) → Written c kept became v new
+    → Finished change kept became → weight became ≡ 1 → (CanRestart kept → CanRestart became) → IsTidy v live → IsTidy new live
+tidy-finished change c live kept became v new w finished stays keeps is =
+    tidy c live kept became v new w (stays ∙ sym (finished-weight change kept became finished)) keeps is

@@ -1,15 +1,13 @@
 -- What a node keeps goes on standing for its journal, entry by entry: what is alike for all entries.
-use Rattle.std.proofs.Common.{◌≡◌, ℕ, ◌==◌, Bool, true, false, cond, not, ◌&&◌, List, [], ◌∷◌, Option, Some, None, refl, sym, ap, subst, ◌∙◌, arith, inl, inr}
+use Rattle.std.proofs.Common.{◌≡◌, ℕ, ◌==◌, true, false, not, ◌&&◌, List, ◌∷◌, Option, Some, None, refl, sym, ap, subst, ◌∙◌, inl, inr}
 use Rattle.std.specs.Prelude.{is_some}
-use Rattle.std.specs.List.{list_any, AllByRecursion, IsDistinct}
-use Rattle.std.specs.Ordering.{nat_cmp, eq_by_cmp}
+use Rattle.std.specs.List.{list_any, AllByRecursion}
+use Rattle.std.specs.Ordering.{nat_cmp}
 use Rattle.std.specs.BTreeMap.{is_at}
 use Rattle.std.specs.Map.{keys_of}
 use Rattle.std.proofs.lemmas.Bool.{cases_eq}
-use Rattle.std.proofs.lemmas.Bool.Decides.{nat_tests}
 use Rattle.std.proofs.lemmas.Map.{keys-set_value}
 use Rattle.std.proofs.lemmas.Map.Made.{is_some-lookup}
-use Rattle.std.proofs.lemmas.Map.Keys.{IsDistinct-from_sorted}
 use Rattle.std.specs.List.Sorted.{IsStrictlySortedBy}
 use Rattle.cable_model.specs.Pieces.{seat, unseated, closing}
 use Rattle.cable_model.specs.Possible.{opened, is_opened, has_job}
@@ -20,7 +18,7 @@ use Rattle.cable_model.specs.Journal.{is_of}
 use Rattle.conn_seat.specs.Seated.{Shows, is_of_all}
 use Rattle.node_seats.specs.Numbers.{Numbers, Opened, opened_at, with_opened}
 use Rattle.node_seats.specs.AreSeats.{IsOpened, AreSeats, Leaves}
-use Rattle.node_seats.proofs.Lookups.{at-is, at-self, found-there, found-elsewhere, any-same}
+use Rattle.node_seats.proofs.Lookups.{at-is, each-entry, found-there, found-elsewhere, any-same}
 
 -- ---- whether a number was opened
 
@@ -105,26 +103,5 @@ moved c past now v o p same leaves a at mine =
 
 -- ---- one number after the other
 
--- what holds of what is found holds of each entry
-module _ (P : ℕ → Opened → Type 0) where
-  each-entry : (v : Numbers) → IsDistinct (eq_by_cmp nat_cmp) (keys_of v) → ((c : ℕ) (o : Opened) → opened_at c v ≡ Some o → P c o) → AllByRecursion (λ (e : ℕ × Opened). P e.0 e.1) v
-  unfolding IsDistinct
-  each-entry [] apart h = tt
-  each-entry (e ∷ es) apart h = (
-    h e.0 e.1 (let t = at-self e.0 in rw t refl),
-    each-entry es apart.1 (λ c o at. h c o (by-test c o (is_at (nat_cmp c) e.0) refl at)),
-  )
-    where
-      absent : (ks : List ℕ) → AllByRecursion (λ y. eq_by_cmp nat_cmp e.0 y ≡ false) ks → list_any (is_at (nat_cmp e.0)) ks ≡ false
-      absent [] n = refl
-      absent (k ∷ ks) n = let t = n.0 in rw t (absent ks n.1)
-
-      by-test : (c : ℕ) (o : Opened) (b : Bool) → is_at (nat_cmp c) e.0 ≡ b → opened_at c es ≡ Some o → cond b (Some e.1) (opened_at c es) ≡ Some o
-      by-test c o true is at =
-          let same : e.0 ≡ c = grind (arith, nat_tests, is) in
-          let gone : is_some (opened_at e.0 es) ≡ false = is_some-lookup (is_at (nat_cmp e.0)) es ∙ absent (keys_of es) apart.0 in
-          absurd (let no_way : true ≡ false = sym (ap is_some at) ∙ sym (ap (λ (x : ℕ). is_some (opened_at x es)) same) ∙ gone in cc)
-      by-test c o false is at = at
-
 pub entries : (past : List Step) (v : Numbers) → AreSeats past v → AllByRecursion (λ (e : ℕ × Opened). IsOpened e.0 past e.1) v
-entries past v a = each-entry (λ c o. IsOpened c past o) v (IsDistinct-from_sorted nat_cmp (keys_of v) a.rising) a.each
+entries past v a = each-entry (λ c o. IsOpened c past o) v a.rising a.each

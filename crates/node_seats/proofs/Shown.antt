@@ -3,6 +3,7 @@ use Rattle.std.proofs.Common.{◌≡◌, ℕ, true, false, Result, Ok, Err, List
 use Rattle.std.specs.Prelude.{IfOk, OnErr, is_some, option_map, unwrap_or}
 use Rattle.std.specs.Ordering.{nat_cmp}
 use Rattle.std.specs.BTreeMap.{insert_entry, is_at}
+use Rattle.std.specs.BTreeSet.{BTreeSet}
 use Rattle.std.specs.Map.{lookup, keys_of}
 use Rattle.std.specs.List.Sorted.{IsStrictlySortedBy}
 use Rattle.std.proofs.lemmas.Map.Made.{lookup-map_values}
@@ -111,10 +112,10 @@ pub on-outbox : (c : ℕ) (kept became : Slot) (m n : List (ℕ × Slot)) → Wr
 on-outbox c kept became m n w = face outbox_of c kept became m n w
 
 -- what is written over the queue alone
-pub tidy-still : (c : ℕ) (kept became : Slot) (m n : List (ℕ × Slot)) → Written c kept became m n → (count : ℕ) → opened_of became ≡ opened_of kept
-    → IsTidy (numbers_of m) count → IsTidy (numbers_of n) count
-tidy-still c kept became m n w count same is =
-    subst (λ (v : Numbers). IsTidy v count)
+pub tidy-still : (c : ℕ) (kept became : Slot) (m n : List (ℕ × Slot)) → Written c kept became m n → (live : BTreeSet ℕ)
+    → opened_of became ≡ opened_of kept → IsTidy (numbers_of m) live → IsTidy (numbers_of n) live
+tidy-still c kept became m n w live same is =
+    subst (λ (v : Numbers). IsTidy v live)
     (sym (same-now c (opened_of kept) (opened_of became) (numbers_of m) (numbers_of n) (on-opened c kept became m n w) same)) is
 
 module _ (c : ℕ) (kept became : Slot) (m n : List (ℕ × Slot)) (w : Written c kept became m n) (is : NodeSeats) (view : shown m ≡ is) where

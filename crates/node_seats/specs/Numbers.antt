@@ -72,6 +72,14 @@ abbrev pub is_receiving_in : Opened → Bool
 is_receiving_in (Opened.Live seat) = is_receiving_now seat
 is_receiving_in Opened.Over = false
 
+abbrev pub is_receiving_among : Option Opened → Bool
+is_receiving_among None = false
+is_receiving_among (Some o) = is_receiving_in o
+
+-- the number is live and not closing
+abbrev pub is_receiving_at : ℕ → Numbers → Bool
+is_receiving_at c v = is_receiving_among (opened_at c v)
+
 -- the numbers of those that are live and not closing
 abbrev pub receiving_among : Numbers → List ConnNo
 receiving_among [] = []
@@ -139,7 +147,18 @@ abbrev pub Restarts : Opened → Opened → Type 0
 Restarts (Opened.Live seat) o = (became : Seated) × Becomes (with_piece piece.Restart seat) became × (o ≡ Opened.Live became)
 Restarts Opened.Over o = o ≡ Opened.Over
 
+abbrev pub RestartsIn : Option Opened → Option Opened → Type 0
+RestartsIn None o = o ≡ None
+RestartsIn (Some kept) o = (became : Opened) × Restarts kept became × (o ≡ Some became)
+
 -- so on each
 abbrev pub Stops : Numbers → Numbers → Type 0
 Stops [] new = new ≡ []
 Stops (e ∷ es) new = (o : Opened) × (rest : Numbers) × Restarts e.1 o × Stops es rest × (new ≡ (e.0, o) ∷ rest)
+
+-- so on this number alone, where it was opened
+pub record StopsOne (c : ℕ) (v new : Numbers) : Type 0 where
+  pub numbers : keys_of new ≡ keys_of v
+  pub stopped : RestartsIn (opened_at c v) (opened_at c new)
+  pub others : (d : ℕ) → (c ≡ d → ⊥) → opened_at d new ≡ opened_at d v
+  pub roomy : CanRestartAll new

@@ -1,12 +1,15 @@
-ghost use Rattle.std.specs.Prelude.{◌≡◌, ◌<◌, ◌≤◌, ◌∷◌, ℕ, [], false, None, Some, IfOk, IsOk, OnOk, OnErr, is_some, length, ltb, not, option_map, true};
+ghost use Rattle.std.specs.Prelude.{cond, ◌≡◌, ◌<◌, ◌≤◌, ◌∷◌, ℕ, [], false, None, Some, IfOk, IsOk, OnOk, OnErr, is_some, length, ltb, not, option_map, true};
 ghost use Rattle.std.specs.Ordering.{nat_cmp};
-ghost use Rattle.std.specs.BTreeMap.{IsOrdered, insert_entry};
+ghost use Rattle.std.specs.BTreeMap.{IsOrdered, insert_entry, is_at};
+ghost use Rattle.std.specs.BTreeSet.{IsSameSet, contains};
 ghost use Rattle.cable_model.specs.Limits.{most_connections};
 ghost use Rattle.cable_model.specs.Pieces.{is_closing};
 ghost use Rattle.conn_core.specs.Subscriptions.{placed_in};
 ghost use Rattle.conn_seat.specs.Seats.{Seated, Becomes, CanFinish, vacant, with_piece, with_taken};
-ghost use Rattle.node_seats.specs.Numbers.{Opened, opened_at, seat_at, is_over_at, live_among, Rising, receiving_among, with_new};
-ghost use Rattle.node_seats.specs.Numbers.{Moves, Lives, HasRoomAt, Widens, Prepares, Finished, Stops};
+ghost use Rattle.node_seats.specs.Numbers.{Opened, opened_at, seat_at, is_over_at, is_receiving_at, live_among, Rising, receiving_among, with_new};
+ghost use Rattle.node_seats.specs.Numbers.{Moves, Lives, CanRestartAll, HasRoomAt, Widens, Prepares, Finished, Stops, StopsOne};
+ghost use Rattle.node_seats.specs.Inside.{IsTidy};
+ghost use Rattle.node_seats.specs.Slots.{numbers_of, outboxes_of};
 ghost use Rattle.node_seats.specs.Outboxes.{Greets, Queues, WidensAll, all_on, forgotten_at, queue_at, room_at, taken_at};
 ghost use Rattle.node_seats.specs.Turned.{errand_at};
 
@@ -15,7 +18,7 @@ use cable_base::{ConnNo, MOST_CONNECTIONS, OutOfMemory, RowId, SubNo, WantNo};
 use cable_model::{Piece, Plan};
 use conn_seat::{Out, Outbox, Seat};
 use std::alloc::Global;
-use std::collections::BTreeMap;
+use std::collections::{BTreeMap, BTreeSet};
 use std::marker::Model;
 
 /// The connections of a node, by their numbers: each is one value, with what is queued on it. A number that was opened stays, so that it
@@ -24,7 +27,8 @@ use std::marker::Model;
 pub struct Seats {
     pub(crate) alloc: Global,
     pub(crate) by_number: BTreeMap<u64, Slot>,
-    live: u64,
+    /// The numbers of those that are live, so that a walk over these doesn't pass those that are over.
+    live: BTreeSet<u64>,
 }
 
 impl Model for Seats {
@@ -49,6 +53,51 @@ fn keep(by_number: &mut BTreeMap<u64, Slot>, number: u64, slot: Slot) -> Result<
     Ok(())
 }
 
+/// Keeps the slot of a live connection under a number that wasn't used, and enters the number among the live ones. Where memory is wanted
+/// for it, nothing changes.
+fn keep_live(
+    by_number: &mut BTreeMap<u64, Slot>,
+    live: &mut BTreeSet<u64>,
+    number: u64,
+    slot: Slot,
+) -> Result<(), OutOfMemory>
+    requires { contains nat_cmp live.old number ≡ false }
+    ensures ok { OnOk result (by_number.new.entries ≡ insert_entry nat_cmp by_number.old.entries number slot) }
+    ensures entered { OnOk result ((c : ℕ) → contains nat_cmp live.new c ≡ cond (is_at (nat_cmp number) c) true (contains nat_cmp live.old c)) }
+    ensures err { OnErr result (by_number.new.entries ≡ by_number.old.entries) }
+    ensures left { OnErr result (IsSameSet nat_cmp live.old live.new) }
+    ensures rising { OnOk result (IsOrdered nat_cmp by_number.new) }
+{
+    live.insert(number)?;
+    if keep(by_number, number, slot).is_err() {
+        live.remove(&number);
+        return Err(OutOfMemory);
+    }
+    Ok(())
+}
+
+/// Puts the piece of a stop on the connection of this number, where it is live and isn't closing.
+fn restart(by_number: &mut BTreeMap<u64, Slot>, number: u64)
+    ensures stops { CanRestartAll (numbers_of by_number.old.entries) → StopsOne number (numbers_of by_number.old.entries) (numbers_of by_number.new.entries) }
+    ensures outs { outboxes_of by_number.new.entries ≡ outboxes_of by_number.old.entries }
+{
+    if let Some(slot) = by_number.get_mut(&number) {
+        slot.restart();
+    }
+}
+
+/// Puts the piece of a stop on each live connection that isn't closing.
+fn restart_all(by_number: &mut BTreeMap<u64, Slot>, live: &BTreeSet<u64>)
+    requires { IsTidy (numbers_of by_number.old.entries) live.now }
+    ensures stops { Stops (numbers_of by_number.old.entries) (numbers_of by_number.new.entries) }
+    ensures outs { outboxes_of by_number.new.entries ≡ outboxes_of by_number.old.entries }
+    ensures tidy { IsTidy (numbers_of by_number.new.entries) live.now }
+{
+    for number in live {
+        restart(by_number, *number);
+    }
+}
+
 /// What is queued on a connection that opens: its greeting.
 fn greeted(alloc: Global, greeting: Out) -> Result<Outbox, OutOfMemory>
     ensures { IfOk result (λ o. Greets greeting o) }
@@ -69,7 +118,7 @@ impl Seats {
         Seats {
             alloc,
             by_number: BTreeMap::new(alloc),
-            live: 0,
+            live: BTreeSet::new(alloc),
         }
     }
 
@@ -85,7 +134,7 @@ impl Seats {
     pub fn is_full(&self) -> bool
         ensures { result ≡ not (ltb (live_among self.now.entries) most_connections) }
     {
-        self.live >= MOST_CONNECTIONS
+        self.live.len() as u64 >= MOST_CONNECTIONS
     }
 
     /// Whether the number was opened and is no longer live. It takes no memory.
@@ -118,8 +167,7 @@ impl Seats {
         seat.reserve(1)?;
         let outbox = greeted(self.alloc, greeting)?;
         let slot = Slot::live(self.alloc, seat, outbox)?;
-        keep(&mut self.by_number, conn.0, slot)?;
-        self.live += 1;
+        keep_live(&mut self.by_number, &mut self.live, conn.0, slot)?;
         Ok(())
     }
 
@@ -221,17 +269,28 @@ impl Seats {
             unreachable!()
         };
         if slot.finish(alloc, plan, outs) {
-            self.live -= 1;
+            self.live.remove(&conn.0);
         }
     }
 
-    /// The connections that are live and not closing, by rising number.
+    /// Whether the number is live and not closing.
+    fn is_receiving(&self, number: u64) -> bool
+        ensures { result ≡ is_receiving_at number self.now.entries }
+    {
+        match self.by_number.get(&number) {
+            Some(slot) => slot.is_receiving(),
+            None => false,
+        }
+    }
+
+    /// The connections that are live and not closing, by rising number. It takes time by the live ones, whatever the number of those that
+    /// are over.
     pub fn receiving(&self, alloc: Global) -> Result<Vec<ConnNo>, OutOfMemory>
         ensures { IfOk result (λ numbers. numbers.items ≡ receiving_among self.now.entries) }
     {
         let mut numbers = Vec::new(alloc);
-        for (number, slot) in &self.by_number {
-            if slot.is_receiving() {
+        for number in &self.live {
+            if self.is_receiving(*number) {
                 numbers.push(ConnNo(*number))?;
             }
         }
@@ -243,10 +302,6 @@ impl Seats {
         ensures stops { Stops self.old.entries self.new.entries }
         ensures outs { self.new.outs ≡ self.old.outs }
     {
-        // There is no walk that changes the values but `retain`, which here keeps each.
-        self.by_number.retain(|_, slot| {
-            slot.restart();
-            true
-        });
+        restart_all(&mut self.by_number, &self.live);
     }
 }

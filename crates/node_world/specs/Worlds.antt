@@ -77,7 +77,7 @@ abbrev pub caught_in : Option Post → Option CaughtTurn
 caught_in None = None
 caught_in (Some p) = caught_of_turn p.turn
 
--- what is held, as the model tells it. No connection is forgotten
+-- what is held, as the model tells it: what each connection said and was told stays, whether or not its node has forgotten it
 abbrev pub shown : Held → Shown
 shown h = record {
   nodes = λ n. journal_in (post_at n h.posts);

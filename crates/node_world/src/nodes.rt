@@ -21,9 +21,8 @@ impl Parts {
             return Ok(idle(alloc));
         }
         let last = self.table.boot(node)?;
-        let booted = Node::boot(alloc, node, last)?;
         let post = Post {
-            node: booted,
+            node: Node::boot_unlogged(alloc, node, last),
             turn: TurnOut::None,
         };
         self.posts.insert(node.0, post)?;

@@ -13,6 +13,11 @@ pub record Reading : Type 0 where
   pub faults : ℕ
   pub faults_behind : ℕ
 
+-- the same of a source that tells these three of itself
+abbrev pub reading_of : {S : Type 0} → (left : S → Option (List ℕ)) → (ends faults : S → ℕ) → (old new : S) → Reading
+reading_of left ends faults old new =
+    record { left = left old; left_behind = left new; ends = ends old; ends_behind = ends new; faults = faults old; faults_behind = faults new }
+
 -- the source gave these bytes in the call
 abbrev pub Gave : Reading → List ℕ → Type 0
 Gave r given = Consumes r.left r.left_behind given

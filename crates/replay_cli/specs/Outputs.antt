@@ -12,6 +12,10 @@ pub record Writing : Type 0 where
   pub faults : ℕ
   pub faults_behind : ℕ
 
+-- the same of a sink that tells these two of itself
+abbrev pub writing_of : {K : Type 0} → (taken : K → Option (List ℕ)) → (faults : K → ℕ) → (old new : K) → Writing
+writing_of taken faults old new = record { taken = taken old; taken_behind = taken new; faults = faults old; faults_behind = faults new }
+
 -- the sink took these bytes in the call
 abbrev pub Took : Writing → List ℕ → Type 0
 Took w bytes = Appends w.taken w.taken_behind bytes

@@ -2,6 +2,7 @@ ghost use Rattle.std.specs.Prelude.{◌≡◌, ◌≤◌, ◌∷◌, ◌++◌, [
 ghost use Rattle.replay_cli.specs.Made.{draw_of, drawn, generator, opening, opens, verb_of_draw};
 ghost use Rattle.replay_cli.specs.MadeRuns.{HasRun, IsPlayable, RunsOn, boots};
 ghost use Rattle.replay_cli.specs.Modes.{most_made};
+ghost use Rattle.replay_cli.specs.Outputs.{writing_of};
 ghost use Rattle.replay_cli.specs.Replay.{MadeDoes};
 
 use crate::draws::Draw;
@@ -130,12 +131,7 @@ pub fn replay_made<K: Sink>(
 ) -> Result<World, Status>
     requires { 1 ≤ count × (count ≤ most_made) }
     ensures faults { K.faults sink.old ≤ K.faults sink.new }
-    ensures made { MadeDoes seed count (record {
-      taken = K.taken sink.old;
-      taken_behind = K.taken sink.new;
-      faults = K.faults sink.old;
-      faults_behind = K.faults sink.new;
-    }) result }
+    ensures made { MadeDoes seed count (writing_of K.taken K.faults sink.old sink.new) result }
 {
     let run = run_made(alloc, seed, count)?;
     let text = tail_text(alloc, Mode::Totals, &run.tally)?;

@@ -2,6 +2,8 @@ ghost use Rattle.std.specs.Prelude.{◌≡◌, ◌≤◌, ◌++◌, ◌∷◌, �
 ghost use Rattle.cable_model.specs.Breaks.{GoodLines, IsBegun};
 ghost use Rattle.cable_model.specs.Script.{HasNoFeed};
 ghost use Rattle.replay_cli.specs.Begun.{IsCut, Extends, EndsLine};
+ghost use Rattle.replay_cli.specs.Inputs.{reading_of};
+ghost use Rattle.replay_cli.specs.Outputs.{writing_of};
 ghost use Rattle.replay_cli.specs.Replay.{HandsOut};
 ghost use Rattle.replay_cli.specs.Stages.{IsAt};
 ghost use Rattle.replay_cli.specs.Reading.{is_feed, HasRead, Flushes, PieceDoes, ReadDoes, EndDoes};
@@ -87,12 +89,7 @@ impl Replaying {
     pub fn flush<K: Sink>(&mut self, sink: &mut K) -> Result<(), Status>
         ensures faults { K.faults sink.old ≤ K.faults sink.new }
         ensures mode { self.new.mode ≡ self.old.mode }
-        ensures wrote { Flushes (record {
-          taken = K.taken sink.old;
-          taken_behind = K.taken sink.new;
-          faults = K.faults sink.old;
-          faults_behind = K.faults sink.new;
-        }) self.old self.new result }
+        ensures wrote { Flushes (writing_of K.taken K.faults sink.old sink.new) self.old self.new result }
     {
         match write_all(sink, &self.out) {
             Ok(()) => {
@@ -117,12 +114,7 @@ impl Replaying {
         ensures mode { self.new.mode ≡ self.old.mode }
         ensures clears { OnOk result (self.new.line.items ≡ []) }
         ensures takes { (given taken : List ℕ) → HasRead given taken self.old
-            → PieceDoes self.old.mode given taken (bytes.now ++ 10 ∷ []) (record {
-              taken = K.taken sink.old;
-              taken_behind = K.taken sink.new;
-              faults = K.faults sink.old;
-              faults_behind = K.faults sink.new;
-            }) self.new result }
+            → PieceDoes self.old.mode given taken (bytes.now ++ 10 ∷ []) (writing_of K.taken K.faults sink.old sink.new) self.new result }
     {
         self.extend_line(bytes)?;
         self.end_line(alloc)?;
@@ -143,12 +135,7 @@ impl Replaying {
         ensures faults { K.faults sink.old ≤ K.faults sink.new }
         ensures mode { self.new.mode ≡ self.old.mode }
         ensures takes { (given taken : List ℕ) → HasRead given taken self.old
-            → PieceDoes self.old.mode given taken piece.now (record {
-              taken = K.taken sink.old;
-              taken_behind = K.taken sink.new;
-              faults = K.faults sink.old;
-              faults_behind = K.faults sink.new;
-            }) self.new result }
+            → PieceDoes self.old.mode given taken piece.now (writing_of K.taken K.faults sink.old sink.new) self.new result }
     {
         let mut rest = piece;
         while let Some((front, behind)) = first_line(rest) {
@@ -168,19 +155,7 @@ impl Replaying {
         requires { HasRead [] [] self.old }
         ensures faults { K.faults sink.old ≤ K.faults sink.new }
         ensures mode { self.new.mode ≡ self.old.mode }
-        ensures reads { ReadDoes self.old.mode (record {
-          left = S.left source.old;
-          left_behind = S.left source.new;
-          ends = S.ends source.old;
-          ends_behind = S.ends source.new;
-          faults = S.faults source.old;
-          faults_behind = S.faults source.new;
-        }) (record {
-          taken = K.taken sink.old;
-          taken_behind = K.taken sink.new;
-          faults = K.faults sink.old;
-          faults_behind = K.faults sink.new;
-        }) self.new result }
+        ensures reads { ReadDoes self.old.mode (reading_of S.left S.ends S.faults source.old source.new) (writing_of K.taken K.faults sink.old sink.new) self.new result }
     {
         let mut buffer = [0u8; PIECE];
         let mut given = 0;

@@ -1,7 +1,9 @@
 ghost use Rattle.std.specs.Prelude.{◌≡◌, ◌↔◌, ◌≤◌, ℕ, List, [], Option, None, map, string_bytes};
 ghost use Rattle.cable_model.specs.declared.statuses.Status.TheVariants as status;
 ghost use Rattle.node_world.specs.Worlds.{WorldState};
+ghost use Rattle.replay_cli.specs.Inputs.{reading_of};
 ghost use Rattle.replay_cli.specs.Modes.{order_of};
+ghost use Rattle.replay_cli.specs.Outputs.{writing_of};
 ghost use Rattle.replay_cli.specs.Reading.{HasRead};
 ghost use Rattle.replay_cli.specs.Replay.{Outcome, ReadOutcome, Met, Hands, IsComplete};
 
@@ -25,19 +27,7 @@ fn met<S: Source, K: Sink>(
     requires { HasRead [] [] replaying.old }
     ensures faults { K.faults sink.old ≤ K.faults sink.new }
     ensures mode { replaying.new.mode ≡ replaying.old.mode }
-    ensures met { Met replaying.old.mode (record {
-      left = S.left source.old;
-      left_behind = S.left source.new;
-      ends = S.ends source.old;
-      ends_behind = S.ends source.new;
-      faults = S.faults source.old;
-      faults_behind = S.faults source.new;
-    }) (record {
-      taken = K.taken sink.old;
-      taken_behind = K.taken sink.new;
-      faults = K.faults sink.old;
-      faults_behind = K.faults sink.new;
-    }) replaying.new result }
+    ensures met { Met replaying.old.mode (reading_of S.left S.ends S.faults source.old source.new) (writing_of K.taken K.faults sink.old sink.new) replaying.new result }
 {
     if let Err(status) = replaying.read_all(alloc, source, sink) {
         return status;
@@ -58,20 +48,8 @@ fn play<S: Source, K: Sink>(
     requires { HasRead [] [] replaying.old }
     ensures { (words : List (List ℕ)) (world : Option WorldState) → Hands replaying.new world → ReadOutcome replaying.old.mode result (record {
       words = words;
-      source = record {
-        left = S.left source.old;
-        left_behind = S.left source.new;
-        ends = S.ends source.old;
-        ends_behind = S.ends source.new;
-        faults = S.faults source.old;
-        faults_behind = S.faults source.new;
-      };
-      sink = record {
-        taken = K.taken sink.old;
-        taken_behind = K.taken sink.new;
-        faults = K.faults sink.old;
-        faults_behind = K.faults sink.new;
-      };
+      source = reading_of S.left S.ends S.faults source.old source.new;
+      sink = writing_of K.taken K.faults sink.old sink.new;
       world = world;
     }) }
 {
@@ -97,20 +75,8 @@ fn replay_read<S: Source, K: Sink>(
 ) -> Status
     ensures { (words : List (List ℕ)) → ReadOutcome mode result (record {
       words = words;
-      source = record {
-        left = S.left source.old;
-        left_behind = S.left source.new;
-        ends = S.ends source.old;
-        ends_behind = S.ends source.new;
-        faults = S.faults source.old;
-        faults_behind = S.faults source.new;
-      };
-      sink = record {
-        taken = K.taken sink.old;
-        taken_behind = K.taken sink.new;
-        faults = K.faults sink.old;
-        faults_behind = K.faults sink.new;
-      };
+      source = reading_of S.left S.ends S.faults source.old source.new;
+      sink = writing_of K.taken K.faults sink.old sink.new;
       world = world.new;
     }) }
 {
@@ -147,40 +113,16 @@ pub fn replay<S: Source, K: Sink>(
     ensures usage { (result ≡ status.Usage) ↔ (order_of (map string_bytes words.now) ≡ None) }
     ensures outcome { Outcome result (record {
       words = map string_bytes words.now;
-      source = record {
-        left = S.left source.old;
-        left_behind = S.left source.new;
-        ends = S.ends source.old;
-        ends_behind = S.ends source.new;
-        faults = S.faults source.old;
-        faults_behind = S.faults source.new;
-      };
-      sink = record {
-        taken = K.taken sink.old;
-        taken_behind = K.taken sink.new;
-        faults = K.faults sink.old;
-        faults_behind = K.faults sink.new;
-      };
+      source = reading_of S.left S.ends S.faults source.old source.new;
+      sink = writing_of K.taken K.faults sink.old sink.new;
       world = world.new;
     }) }
 
     // Where nothing fails a script is replayed whole, and other bytes are refused with their first break, unless memory runs out.
     ensures complete { IsComplete result (record {
       words = map string_bytes words.now;
-      source = record {
-        left = S.left source.old;
-        left_behind = S.left source.new;
-        ends = S.ends source.old;
-        ends_behind = S.ends source.new;
-        faults = S.faults source.old;
-        faults_behind = S.faults source.new;
-      };
-      sink = record {
-        taken = K.taken sink.old;
-        taken_behind = K.taken sink.new;
-        faults = K.faults sink.old;
-        faults_behind = K.faults sink.new;
-      };
+      source = reading_of S.left S.ends S.faults source.old source.new;
+      sink = writing_of K.taken K.faults sink.old sink.new;
       world = world.new;
     }) }
 {

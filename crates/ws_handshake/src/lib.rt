@@ -3,7 +3,13 @@
 //! It stands above `cable_link`, so that what needs a link alone doesn't stand on http and the rules of admission.
 #![tactic(auto)]
 
-mod admits;
+mod answering;
+mod answers;
+mod hearing;
+mod replies;
+mod requests;
+mod rulings;
 mod shaking;
 
+pub use replies::{Failure, Reply, reply_to_head};
 pub use shaking::{Shake, Shaken};

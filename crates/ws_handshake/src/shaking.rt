@@ -1,19 +1,32 @@
-use crate::admits::{Admits, Found, Ruling};
+ghost use Rattle.std.specs.Prelude.{◌≡◌, IfOk};
+ghost use Rattle.ws_handshake.specs.Heard.{IsHeardBy};
+ghost use Rattle.ws_handshake.specs.Shakes.{rules_of, Follows};
+
+use crate::answering::Answering;
+use crate::hearing::{Heard, Hearing};
+use crate::rulings::Ruling;
 use cable_base::OutOfMemory;
-use cable_link::{WsLink, socket_config};
+use cable_link::{CountedStream, WsLink, socket_config};
 use mio::net::TcpStream;
 use std::alloc::Global;
-use std::sync::{Arc, OnceLock};
-use tungstenite::handshake::server::{ServerHandshake, start};
-use tungstenite::{HandshakeError, MidHandshake, NoMask};
+use std::io::{ErrorKind, Write};
+use std::sync::Arc;
+use tungstenite::{NoMask, Role, WebSocket};
 use ws_gate::{Admission, Denial, Rules};
+
+/// Where a handshake is.
+#[derive(Drop)]
+enum Stage {
+    Hears(Hearing),
+    Answers(Answering),
+}
 
 /// A handshake that waits for bytes to come, or for room for its answer.
 #[derive(Drop)]
 pub struct Shake {
     alloc: Global,
-    mid: MidHandshake<ServerHandshake<TcpStream, Admits>>,
-    found: Found,
+    stream: TcpStream,
+    stage: Stage,
 }
 
 /// How far a handshake is.
@@ -29,9 +42,100 @@ pub enum Shaken {
     Failed,
 }
 
-/// What the rules made of the request, once nothing else looks there.
-fn ruling_in(found: Found) -> Option<Ruling> {
-    Arc::into_inner(found)?.into_inner()
+/// How many reads a request may take at once.
+const READ_LIMIT: usize = 1024;
+
+/// How many writes an answer may take at once.
+const WRITE_LIMIT: usize = 1024;
+
+/// What came of writing an answer.
+#[derive(Clone, Copy, PartialEq, Eq)]
+enum Written {
+    All,
+    Blocked,
+    Failed,
+}
+
+/// Writes as much of an answer as the stream takes.
+fn write_answer(stream: &mut TcpStream, answering: &mut Answering) -> Written
+    ensures { answering.new.rules ≡ answering.old.rules }
+{
+    for _ in 0..WRITE_LIMIT {
+        let rest = answering.rest();
+        if rest.is_empty() {
+            return Written::All;
+        }
+        match stream.write(rest) {
+            Ok(0) => return Written::Failed,
+            Ok(count) => answering.take(count),
+            Err(error) if error.kind() == ErrorKind::WouldBlock => return Written::Blocked,
+            Err(_) => return Written::Failed,
+        }
+    }
+    Written::Failed
+}
+
+/// The end of a handshake whose answer is written.
+fn done(alloc: Global, stream: TcpStream, answering: Answering) -> Shaken
+    ensures { Follows answering.rules.value result }
+{
+    match answering.into_ruling() {
+        Ruling::LetIn(admission, _) => {
+            let stream = CountedStream::on(stream);
+            let config = Some(socket_config());
+            let socket = WebSocket::from_raw_socket(alloc, stream, NoMask, Role::Server, config);
+            Shaken::Done(WsLink::on(alloc, socket), admission)
+        }
+        Ruling::KeptOut(denial) => Shaken::Denied(denial),
+    }
+}
+
+/// Goes on with an answer.
+fn answer(alloc: Global, stream: TcpStream, answering: Answering) -> Shaken
+    ensures { Follows answering.rules.value result }
+{
+    let mut stream = stream;
+    let mut answering = answering;
+    match write_answer(&mut stream, &mut answering) {
+        Written::All => done(alloc, stream, answering),
+        Written::Blocked => Shaken::Waits(Shake {
+            alloc,
+            stream,
+            stage: Stage::Answers(answering),
+        }),
+        Written::Failed => Shaken::Failed,
+    }
+}
+
+/// What of a request came, as far as it can be read without waiting.
+fn hear_all(alloc: Global, stream: &mut TcpStream, hearing: &mut Hearing) -> Heard
+    ensures heard { IsHeardBy hearing.old.rules.value result }
+    ensures rules { hearing.new.rules ≡ hearing.old.rules }
+{
+    for _ in 0..READ_LIMIT {
+        match hearing.go_on(alloc, stream) {
+            Heard::More => {}
+            heard => return heard,
+        }
+    }
+    Heard::Failed
+}
+
+/// Goes on with a request.
+fn hear(alloc: Global, stream: TcpStream, hearing: Hearing) -> Shaken
+    ensures { Follows hearing.rules.value result }
+{
+    let mut stream = stream;
+    let mut hearing = hearing;
+    match hear_all(alloc, &mut stream, &mut hearing) {
+        Heard::Whole(ruling) => answer(alloc, stream, Answering::new(hearing.into_rules(), ruling)),
+        Heard::Nothing => Shaken::Waits(Shake {
+            alloc,
+            stream,
+            stage: Stage::Hears(hearing),
+        }),
+        Heard::More | Heard::Failed => Shaken::Failed,
+    }
 }
 
 impl Shake {
@@ -41,40 +145,34 @@ impl Shake {
         alloc: Global,
         stream: TcpStream,
         rules: &Arc<Rules, Global>,
-    ) -> Result<Shake, OutOfMemory> {
-        let found = Arc::new(alloc, OnceLock::new())?;
-        let admits = Admits::new(alloc, rules.clone()?, found.clone()?);
-        let mid = start(alloc, stream, admits, Some(socket_config()));
-        Ok(Shake { alloc, mid, found })
+    ) -> Result<Shake, OutOfMemory>
+        ensures { IfOk result (λ shake. rules_of shake ≡ rules.now.value) }
+    {
+        let hearing = Hearing::new(alloc, rules.clone()?);
+        Ok(Shake {
+            alloc,
+            stream,
+            stage: Stage::Hears(hearing),
+        })
     }
 
     /// Its stream, to be registered where readiness is waited for.
     pub fn stream(&mut self) -> &mut TcpStream {
-        self.mid.get_mut()
+        &mut self.stream
     }
 
-    /// Goes on with what came, as far as it can without waiting.
-    pub fn go_on(self) -> Shaken {
-        let Shake { alloc, mid, found } = self;
-        let shaken = mid.handshake();
-        match shaken {
-            Err(HandshakeError::Interrupted(mid)) => Shaken::Waits(Shake { alloc, mid, found }),
-            Err(HandshakeError::Failure(_)) => match ruling_in(found) {
-                Some(
-                    Ruling {
-                        result: Err(denial),
-                    },
-                ) => Shaken::Denied(denial),
-                _ => Shaken::Failed,
-            },
-            Ok(socket) => match ruling_in(found) {
-                Some(
-                    Ruling {
-                        result: Ok(admission),
-                    },
-                ) => Shaken::Done(WsLink::on(alloc, socket), admission),
-                _ => Shaken::Failed,
-            },
+    /// Goes on with what came, as far as it can without waiting. Whom it lets in, and whom it denies, is by its rules.
+    pub fn go_on(self) -> Shaken
+        ensures { Follows (rules_of self) result }
+    {
+        let Shake {
+            alloc,
+            stream,
+            stage,
+        } = self;
+        match stage {
+            Stage::Hears(hearing) => hear(alloc, stream, hearing),
+            Stage::Answers(answering) => answer(alloc, stream, answering),
         }
     }
 }

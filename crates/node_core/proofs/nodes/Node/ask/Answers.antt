@@ -6,6 +6,7 @@ use Rattle.node_core.proofs.Asking.{asked, asks, next-turn}
 use Rattle.node_core.proofs.Refreshing.{looks-none}
 use Rattle.node_core.proofs.Standing.{room-left}
 use Rattle.node_core.proofs.StayingReady.{goes-nowhere, goes-on}
+use Rattle.node_core.proofs.Logging.{logs}
 use Rattle.node_core.proofs.nodes.Node.ask.Goals as goal
 
 pub invariant_of-self-2 : goal.invariant_of-self-2
@@ -18,7 +19,7 @@ invariant_of-self-2 c =
           (asks c.turns-number.result c.ask-turn.new.self c.self.invariant.stands unasked number
           (now.now ∙ ap (λ (n : ℕ). record { lower = k.lower; turns = n; is_out = true }) (sym number)));
       turn_room =
-          room-left _ c.reserve.new.self c.enter.new.self c.in_ok-reserve.ensures.log c.in_ok-reserve.ensures.beside c.enter.ensures.log c.enter.ensures.beside;
+          room-left _ c.reserve.new.self c.enter.new.self c.in_ok-reserve.ensures.room c.enter.ensures.spare;
       ready = c.self.invariant.ready;
     }
 
@@ -28,7 +29,7 @@ returns-clause-turn c =
     let unasked = sym c.is_out.ensures ∙ c.if-is_out.false in
     let now = asked c.self.inside.no c.in_ok-hashes.hashes.items k c.ask-turn.new.self c.ask-turn.result unasked c.ask-turn.ensures in
     let self = c.self.inside in
-    let n : NodeState = record { no = self.no; kept = self.journal.kept; outs = self.seats.outs; ready = self.ready.waiting } in
+    let n : NodeState = record { no = self.no; kept = self.journal.kept; stored = self.journal.stored; outs = self.seats.outs; ready = self.ready.waiting } in
     λ t e. subst (λ (m : NodeState). IsNextTurn t m) c.self.view_is
     (next-turn n self.seats.entries k self.holders _ _ c.in_ok-hashes.hashes.items c.ask-turn.result t c.self.invariant.stands
     c.in_ok-hashes.ensures.hashes c.in_ok-hashes.ensures.held now.turn e)
@@ -37,7 +38,8 @@ pub returns-clause-goes : goal.returns-clause-goes
 returns-clause-goes c =
     rw (← c.self.view_is)
     (goes-on _ _ c.self.inside.seats.entries [] c.self.inside.ready.waiting (invariant_of-self-2 c).stands (λ d. refl) (λ d. refl) (λ d e. refl)
-    c.self.invariant.ready refl (looks-none _ _ _ refl))
+    c.self.invariant.ready refl (looks-none _ _ _ refl)
+    (logs _ _ _ _ _ _ c.in_ok-reserve.ensures.kept c.in_ok-reserve.ensures.stored c.enter.ensures.kept c.enter.ensures.stored))
 
 pub returns-then-is_out-clause-goes : goal.returns-then-is_out-clause-goes
 returns-then-is_out-clause-goes c = rw (← c.self.view_is) (goes-nowhere _ _ c.self.invariant.stands c.self.invariant.ready (search rules))

@@ -8,6 +8,7 @@ use Rattle.node_core.proofs.Speaking.{beats, beat-room}
 use Rattle.node_core.proofs.Refreshing.{looks-none}
 use Rattle.node_core.proofs.Standing.{room-out, room-left}
 use Rattle.node_core.proofs.StayingReady.{goes-nowhere, goes-on}
+use Rattle.node_core.proofs.Logging.{logs}
 use Rattle.node_core.proofs.nodes.Node.beat.Goals as goal
 
 pub reserve_each-requires : goal.reserve_each-requires
@@ -29,7 +30,7 @@ invariant_of-self-2 c =
       stands = rw (c.enter.ensures.entered, c.in_ok-reserve.ensures.kept, c.queue_all.ensures.entries, c.in_ok-reserve_each.ensures.entries)
           (beats c.args.now.0 _ roomy said);
       turn_room = room-left _ c.reserve.new.self c.enter.new.self
-          c.in_ok-reserve.ensures.log c.in_ok-reserve.ensures.beside c.enter.ensures.log c.enter.ensures.beside;
+          c.in_ok-reserve.ensures.room c.enter.ensures.spare;
       ready = rw (c.queue_all.ensures.entries, c.in_ok-reserve_each.ensures.entries) c.self.invariant.ready;
     }
 
@@ -41,7 +42,8 @@ returns-clause-goes c =
     (λ d. c.queue_all.ensures.queues.taken d ∙ c.in_ok-reserve_each.ensures.same.taken d)
     (λ d. c.queue_all.ensures.queues.forgotten d ∙ c.in_ok-reserve_each.ensures.same.forgotten d)
     (λ d e. ap (may_take_at d.0) entries) c.self.invariant.ready refl
-    (looks-none _ _ _ refl))
+    (looks-none _ _ _ refl)
+    (logs _ _ _ _ _ _ c.in_ok-reserve.ensures.kept c.in_ok-reserve.ensures.stored c.enter.ensures.kept c.enter.ensures.stored))
 
 pub returns-in_err-conns-clause-goes : goal.returns-in_err-conns-clause-goes
 returns-in_err-conns-clause-goes c = rw (← c.self.view_is) (goes-nowhere _ _ c.self.invariant.stands c.self.invariant.ready (search rules))

@@ -1,4 +1,4 @@
-use Rattle.std.proofs.Common.{rules, ◌≡◌, ◌++◌, ◌∙◌, take, ap}
+use Rattle.std.proofs.Common.{rules, ◌≡◌, ◌++◌, ◌∙◌, take, ap, refl}
 use Rattle.cable_model.specs.Possible.{is_out}
 use Rattle.node_turns.specs.Holding.{rows_bring}
 use Rattle.node_turns.proofs.PlacingTurn.{places-new}
@@ -12,12 +12,13 @@ use Rattle.node_core.proofs.Asking.{expected, no-room}
 use Rattle.node_core.proofs.Delivering.{delivers, roomy}
 use Rattle.node_core.proofs.Refreshing.{looks-same}
 use Rattle.node_core.proofs.StayingReady.{alike-roomier, alike-turned, goes-nowhere, goes-on, still-ready, still-so}
+use Rattle.node_core.proofs.Logging.{logs}
 use Rattle.node_core.proofs.nodes.Node.bring_in.Goals as goal
 
 pub bring-requires : goal.bring-requires
 bring-requires g c =
     let self = c.self.inside in
-    let n : NodeState = record { no = self.no; kept = self.journal.kept; outs = self.seats.outs; ready = self.ready.waiting } in
+    let n : NodeState = record { no = self.no; kept = self.journal.kept; stored = self.journal.stored; outs = self.seats.outs; ready = self.ready.waiting } in
     let e = rw (← c.self.view_is) at c.requires.expected in
     let x = expected c.args.caught n e in
     let h = c.self.invariant.stands in
@@ -41,7 +42,7 @@ invariant_of-self g c = record {
 pub invariant_of-self-2 : goal.invariant_of-self-2
 invariant_of-self-2 g c =
     let self = c.self.inside in
-    let n : NodeState = record { no = self.no; kept = self.journal.kept; outs = self.seats.outs; ready = self.ready.waiting } in
+    let n : NodeState = record { no = self.no; kept = self.journal.kept; stored = self.journal.stored; outs = self.seats.outs; ready = self.ready.waiting } in
     let e = rw (← c.self.view_is) at c.requires.expected in
     let x = expected c.args.caught n e in
     let v = self.seats.entries in
@@ -90,7 +91,8 @@ returns-clause-goes g c =
     rw (← c.self.view_is)
     (goes-on _ _ v _ c.bring.new.ready.waiting (invariant_of-self-2 g c).stands (λ d. ap (taken_at d) outs) (λ d. ap (forgotten_at d) outs)
     (alike-turned c.args.caught.last _ ds v v1 v2 v3 c.in-Ok.ensures.seats places c.put_all.ensures.delivers) c.self.invariant.ready
-    c.in-Ok.ensures.ready look)
+    c.in-Ok.ensures.ready look
+    (logs _ _ _ _ _ _ refl refl c.enter.ensures.kept c.enter.ensures.stored))
 
 pub returns-in_default-clause-goes : goal.returns-in_default-clause-goes
 returns-in_default-clause-goes g c = rw (← c.self.view_is) (goes-nowhere _ _ c.self.invariant.stands c.self.invariant.ready (search rules))

@@ -11,6 +11,7 @@ use Rattle.node_core.proofs.Refreshing.{looks-none}
 use Rattle.node_core.proofs.Speaking.{opens-to}
 use Rattle.node_core.proofs.Standing.{room-left}
 use Rattle.node_core.proofs.StayingReady.{alike-opened, goes-on, still-so}
+use Rattle.node_core.proofs.Logging.{logs}
 use Rattle.node_core.proofs.nodes.Node.enter_open.Goals as goal
 
 pub keep-requires-clause-unused : goal.keep-requires-clause-unused
@@ -44,7 +45,7 @@ invariant_of-self-2 g c =
           told c.in_ok-reserve.ensures.wanted c.want_own.ensures.wanted
           (c.want_own.ensures.taken ∙ c.in_ok-reserve.ensures.taken);
       turn_room = room-left _ c.reserve-2.new.self c.enter.new.self
-          c.in_ok-reserve-2.ensures.log c.in_ok-reserve-2.ensures.beside c.enter.ensures.log c.enter.ensures.beside;
+          c.in_ok-reserve-2.ensures.room c.enter.ensures.spare;
       ready = still-so v c.keep.new.seats.entries _ _
           (alike-opened conn.0 _ _ _ (unused-at conn.0 _ v c.self.invariant.stands.numbers can) c.in_ok-keep.ensures.opens) c.self.invariant.ready refl;
     }
@@ -58,4 +59,5 @@ returns-clause-goes g c =
     rw (← c.self.view_is)
     (goes-on _ _ c.self.inside.seats.entries [] c.self.inside.ready.waiting (invariant_of-self-2 g c).stands queues.taken queues.forgotten
     (λ d e. alike d.0) c.self.invariant.ready refl
-    (looks-none _ _ _ refl))
+    (looks-none _ _ _ refl)
+    (logs _ _ _ _ _ _ c.in_ok-reserve-2.ensures.kept c.in_ok-reserve-2.ensures.stored c.enter.ensures.kept c.enter.ensures.stored))

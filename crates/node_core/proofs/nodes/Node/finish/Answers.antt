@@ -11,12 +11,13 @@ use Rattle.node_core.specs.Nodes.{NodeState}
 use Rattle.node_core.proofs.Finishes.{Ready, answered-out, finishes-as, ignoring, live-out, out-on, plan-out, ready}
 use Rattle.node_core.proofs.Standing.{room-left}
 use Rattle.node_core.proofs.StayingReady.{alike-finished, goes-nowhere, goes-on, still-ready}
+use Rattle.node_core.proofs.Logging.{logs}
 use Rattle.node_core.proofs.nodes.Node.finish.Goals as goal
 
 pub make_room-requires : goal.make_room-requires
 make_room-requires c =
     let self = c.self.inside in
-    let n : NodeState = record { no = self.no; kept = self.journal.kept; outs = self.seats.outs; ready = self.ready.waiting } in
+    let n : NodeState = record { no = self.no; kept = self.journal.kept; stored = self.journal.stored; outs = self.seats.outs; ready = self.ready.waiting } in
     let work = c.work.inside in
     let w : WorkState = record { node = work.node; conn = work.conn; place = work.place; task = work.task; plan = work.plan; puts = work.puts.items } in
     let f : Fits w n = rw (c.work.view_is, c.self.view_is) c.requires in
@@ -25,7 +26,7 @@ make_room-requires c =
 pub unreachable-requires : goal.unreachable-requires
 unreachable-requires c =
     let self = c.self.inside in
-    let n : NodeState = record { no = self.no; kept = self.journal.kept; outs = self.seats.outs; ready = self.ready.waiting } in
+    let n : NodeState = record { no = self.no; kept = self.journal.kept; stored = self.journal.stored; outs = self.seats.outs; ready = self.ready.waiting } in
     let work = c.work.inside in
     let w : WorkState = record { node = work.node; conn = work.conn; place = work.place; task = work.task; plan = work.plan; puts = work.puts.items } in
     let f : Fits w n = rw (c.work.view_is, c.self.view_is) c.requires in
@@ -44,7 +45,7 @@ unreachable-requires c =
 pub put_change-requires-clause-numbers : goal.put_change-requires-clause-numbers
 put_change-requires-clause-numbers c =
     let self = c.self.inside in
-    let n : NodeState = record { no = self.no; kept = self.journal.kept; outs = self.seats.outs; ready = self.ready.waiting } in
+    let n : NodeState = record { no = self.no; kept = self.journal.kept; stored = self.journal.stored; outs = self.seats.outs; ready = self.ready.waiting } in
     let work = c.work.inside in
     let w : WorkState = record { node = work.node; conn = work.conn; place = work.place; task = work.task; plan = work.plan; puts = work.puts.items } in
     let f : Fits w n = rw (c.work.view_is, c.self.view_is) c.requires in
@@ -65,7 +66,7 @@ put_change-requires-clause-numbers c =
 pub finish-requires-clause-can : goal.finish-requires-clause-can
 finish-requires-clause-can c =
     let self = c.self.inside in
-    let n : NodeState = record { no = self.no; kept = self.journal.kept; outs = self.seats.outs; ready = self.ready.waiting } in
+    let n : NodeState = record { no = self.no; kept = self.journal.kept; stored = self.journal.stored; outs = self.seats.outs; ready = self.ready.waiting } in
     let work = c.work.inside in
     let w : WorkState = record { node = work.node; conn = work.conn; place = work.place; task = work.task; plan = work.plan; puts = work.puts.items } in
     let f : Fits w n = rw (c.work.view_is, c.self.view_is) c.requires in
@@ -83,7 +84,7 @@ finish-requires-clause-can c =
 pub invariant_of-self-2 : goal.invariant_of-self-2
 invariant_of-self-2 c =
     let self = c.self.inside in
-    let n : NodeState = record { no = self.no; kept = self.journal.kept; outs = self.seats.outs; ready = self.ready.waiting } in
+    let n : NodeState = record { no = self.no; kept = self.journal.kept; stored = self.journal.stored; outs = self.seats.outs; ready = self.ready.waiting } in
     let work = c.work.inside in
     let w : WorkState = record { node = work.node; conn = work.conn; place = work.place; task = work.task; plan = work.plan; puts = work.puts.items } in
     let f : Fits w n = rw (c.work.view_is, c.self.view_is) c.requires in
@@ -115,7 +116,7 @@ invariant_of-self-2 c =
           (finishes-as answering w.conn w.place w.puts w.plan v1 c.finish.new.self.entries c.in-Some.seat.now outs c.finish.new.self.outs h f.out.place planned
           answered f.done prepares at c.finish.ensures.made c.in-Ok-make_room.ensures.queues said);
       turn_room = room-left _ c.make_room.new.journal c.enter.new.self
-          c.in-Ok-make_room.ensures.log_room c.in-Ok-make_room.ensures.beside_room c.enter.ensures.log c.enter.ensures.beside;
+          c.in-Ok-make_room.ensures.log_room c.enter.ensures.spare;
       ready = still-ready v c.finish.new.self.entries (w.conn ∷ []) _ _ _ (alike-finished w.conn w.plan.change _ v1 _ prepares c.finish.ensures.made)
           c.self.invariant.ready c.reserve.ensures.same.waiting c.refresh.ensures.refreshes;
     }
@@ -129,7 +130,8 @@ returns-clause-goes c =
     rw (← c.self.view_is)
     (goes-on _ _ c.self.inside.seats.entries (c.work.inside.conn ∷ []) c.reserve.new.self.waiting (invariant_of-self-2 c).stands
     (λ d. queues.taken d ∙ roomy.taken d) (λ d. queues.forgotten d ∙ roomy.forgotten d)
-    alike c.self.invariant.ready c.reserve.ensures.same.waiting c.refresh.ensures.refreshes)
+    alike c.self.invariant.ready c.reserve.ensures.same.waiting c.refresh.ensures.refreshes
+    (logs _ _ _ _ _ _ c.in-Ok-make_room.ensures.kept c.in-Ok-make_room.ensures.stored c.enter.ensures.kept c.enter.ensures.stored))
 
 pub returns-in_default-clause-goes : goal.returns-in_default-clause-goes
 returns-in_default-clause-goes c = rw (← c.self.view_is) (goes-nowhere _ _ c.self.invariant.stands c.self.invariant.ready (search rules))

@@ -5,7 +5,7 @@ use Rattle.node_core.specs.Forgetting.{may_forget}
 use Rattle.node_core.specs.Nodes.{NodeState}
 use Rattle.node_core.proofs.Drained.{nothing-queued, over-now}
 use Rattle.node_core.proofs.Queueing.{unmoved}
-use Rattle.node_core.proofs.Standing.{queues-now}
+use Rattle.node_core.proofs.Standing.{queues-now, room-stays}
 use Rattle.node_core.proofs.nodes.Node.forget.Goals as goal
 
 pub forget-requires-clause-over : goal.forget-requires-clause-over
@@ -24,8 +24,8 @@ invariant_of-self c =
     let outs = c.self.inside.seats.outs in
     let new = c.forget.new.self.outs in
     let forgets = c.forget.ensures.forgets in record {
-      stands = rw c.forget.ensures.entries
+      stands = rw (c.cut.ensures.kept, c.forget.ensures.entries)
           (queues-now new c.self.invariant.stands (unmoved _ outs new c.self.invariant.stands.queues forgets.queue forgets.taken));
-      turn_room = c.self.invariant.turn_room;
+      turn_room = room-stays c.self.inside.journal c.cut.new.self c.self.invariant.turn_room c.cut.ensures.kept c.cut.ensures.spare;
       ready = rw c.forget.ensures.entries c.self.invariant.ready;
     }

@@ -11,6 +11,7 @@ use Rattle.node_core.proofs.Standing.{takes-one, room-left}
 use Rattle.node_core.proofs.StayingReady.{alike-moved, goes-nowhere, goes-on, may-is, still-ready, taken-out}
 use Rattle.node_core.proofs.TakingJobs.{errand-is, errand-may, takes-job, given-back}
 use Rattle.node_core.proofs.Telling.{worked}
+use Rattle.node_core.proofs.Logging.{logs}
 use Rattle.node_core.proofs.nodes.Node.take.Goals as goal
 
 pub returns-in_err-reserve-clause-goes : goal.returns-in_err-reserve-clause-goes
@@ -54,7 +55,7 @@ invariant_of-self-2 c =
       stands = rw (c.enter.ensures.entered, c.in_ok-reserve.ensures.kept, c.in_ok-errand.ensures.outs)
           (takes-one conn.0 new c.self.invariant.stands may moved (errand-may conn.0 v c.in-Some.errand told));
       turn_room = room-left _ c.reserve.new.self c.enter.new.self
-          c.in_ok-reserve.ensures.log c.in_ok-reserve.ensures.beside c.enter.ensures.log c.enter.ensures.beside;
+          c.in_ok-reserve.ensures.room c.enter.ensures.spare;
       ready = still-ready v new (conn ∷ []) _ _ _ (alike-moved conn _ _ _ moved) c.self.invariant.ready refl
           (looks-drop _ conn _ _ out c.drop_out.ensures.waiting);
     }
@@ -77,7 +78,7 @@ returns-clause-job c =
     let h = c.self.invariant.stands in
     let job = takes-job c.args.conn.0 before v c.take.new.self.entries errand (worked _ h.legal) h.numbers told moved in
     let now = c.enter.ensures.entered ∙ ap (λ (k : Kept). Step.Take c.args.conn.0 ∷ past_of k) c.in_ok-reserve.ensures.kept in
-    let n : NodeState = record { no = c.self.inside.no; kept = c.enter.new.self.kept; outs = c.take.new.self.outs; ready = c.drop_out.new.self.waiting } in
+    let n : NodeState = record { no = c.self.inside.no; kept = c.enter.new.self.kept; stored = c.enter.new.self.stored; outs = c.take.new.self.outs; ready = c.drop_out.new.self.waiting } in
     λ j e. given-back n c.args.conn before errand j job now e
 
 pub returns-clause-goes : goal.returns-clause-goes
@@ -93,4 +94,5 @@ returns-clause-goes c =
     (goes-on _ _ v (conn ∷ []) c.self.inside.ready.waiting (invariant_of-self-2 c).stands
     (λ d. ap (taken_at d) c.in_ok-errand.ensures.outs) (λ d. ap (forgotten_at d) c.in_ok-errand.ensures.outs)
     (alike-moved conn _ _ _ moved) c.self.invariant.ready refl
-    (looks-drop _ conn _ _ out c.drop_out.ensures.waiting))
+    (looks-drop _ conn _ _ out c.drop_out.ensures.waiting)
+    (logs _ _ _ _ _ _ c.in_ok-reserve.ensures.kept c.in_ok-reserve.ensures.stored c.enter.ensures.kept c.enter.ensures.stored))

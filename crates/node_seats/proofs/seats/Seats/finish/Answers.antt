@@ -1,9 +1,9 @@
-use Rattle.std.proofs.Common.{◌≡◌, Option, Some, sym, ◌∙◌, arith}
+use Rattle.std.proofs.Common.{◌≡◌, Option, Some, sym, ◌∙◌}
 use Rattle.cable_model.specs.declared.plans.Change.{Change}
 use Rattle.conn_seat.specs.Seats.{Seated, CanFinish}
 use Rattle.node_seats.specs.Numbers.{Finished, Opened}
-use Rattle.node_seats.proofs.Faces.{over}
-use Rattle.node_seats.proofs.Moving.{tidy-over, tidy-finished, was-counted}
+use Rattle.node_seats.proofs.Faces.{wrote}
+use Rattle.node_seats.proofs.Moving.{tidy-over, tidy-finished}
 use Rattle.node_seats.proofs.Shown.{moved-by, on-opened, one-outbox, opened-found, opened-missing, outbox-found}
 use Rattle.node_seats.proofs.OneQueue.{queues-all}
 use Rattle.node_seats.proofs.seats.Seats.finish.Goals as goal
@@ -25,25 +25,19 @@ finish-requires c =
 
 pub invariant_of-self : goal.invariant_of-self
 invariant_of-self c =
-    let m = c.self.inside.by_number in
-    let n = c.get_mut.follows.lender c.finish.new.self in
-    let w = over c.args.conn.0 m n _ c.finish.new.self (sym c.in-Some.ensures.value) (c.get_mut.follows.holds c.finish.new.self) in
-    tidy-over _ c.args.conn.0 c.self.inside.live _ _ _ _ (on-opened c.args.conn.0 _ _ m.entries n.entries w) c.finish.ensures.made
-    (c.finish.ensures.over.0 c.if-finish.true) c.finish.ensures.keeps c.self.invariant
+    let w = wrote c.args.conn.0 _ _ _ _ c.in-Some.ensures.value (c.get_mut.follows.holds c.finish.new.self).0 in
+    tidy-over c.args.conn.0 _ _ _ _ _ _ (on-opened _ _ _ _ _ w) (c.finish.ensures.over.0 c.if-finish.true)
+    c.remove.ensures.updates.0 c.finish.ensures.keeps c.self.invariant
 
 pub invariant_of-self-else-finish : goal.invariant_of-self-else-finish
 invariant_of-self-else-finish c =
-    let m = c.self.inside.by_number in
-    let n = c.get_mut.follows.lender c.finish.new.self in
-    let w = over c.args.conn.0 m n _ c.finish.new.self (sym c.in-Some.ensures.value) (c.get_mut.follows.holds c.finish.new.self) in
-    tidy-finished _ c.args.conn.0 c.self.inside.live _ _ _ _ (on-opened c.args.conn.0 _ _ m.entries n.entries w) c.finish.ensures.made
+    let w = wrote c.args.conn.0 _ _ _ _ c.in-Some.ensures.value (c.get_mut.follows.holds c.finish.new.self).0 in
+    tidy-finished _ c.args.conn.0 _ _ _ _ _ (on-opened _ _ _ _ _ w) c.finish.ensures.made
     (c.finish.ensures.over.1 c.if-finish.false) c.finish.ensures.keeps c.self.invariant
 
 pub returns-then-finish : goal.returns-then-finish
 returns-then-finish c =
-    let m = c.self.inside.by_number in
-    let n = c.get_mut.follows.lender c.finish.new.self in
-    let w = over c.args.conn.0 m n _ c.finish.new.self (sym c.in-Some.ensures.value) (c.get_mut.follows.holds c.finish.new.self) in
+    let w = wrote c.args.conn.0 _ _ _ _ c.in-Some.ensures.value (c.get_mut.follows.holds c.finish.new.self).0 in
     record {
       made = moved-by _ _ _ _ _ w _ c.self.view_is (Finished c.args.plan.now.change) c.finish.ensures.made;
       queues = queues-all c.args.conn c.args.outs.items _ _ _ _ (one-outbox _ _ _ _ _ w _ c.self.view_is) c.finish.ensures.queued;
@@ -51,9 +45,7 @@ returns-then-finish c =
 
 pub returns-else-finish : goal.returns-else-finish
 returns-else-finish c =
-    let m = c.self.inside.by_number in
-    let n = c.get_mut.follows.lender c.finish.new.self in
-    let w = over c.args.conn.0 m n _ c.finish.new.self (sym c.in-Some.ensures.value) (c.get_mut.follows.holds c.finish.new.self) in
+    let w = wrote c.args.conn.0 _ _ _ _ c.in-Some.ensures.value (c.get_mut.follows.holds c.finish.new.self).0 in
     record {
       made = moved-by _ _ _ _ _ w _ c.self.view_is (Finished c.args.plan.now.change) c.finish.ensures.made;
       queues = queues-all c.args.conn c.args.outs.items _ _ _ _ (one-outbox _ _ _ _ _ w _ c.self.view_is) c.finish.ensures.queued;
@@ -63,12 +55,3 @@ pub unreachable-requires : goal.unreachable-requires
 unreachable-requires c =
     let no_way = sym c.requires.can.1 ∙ opened-missing c.args.conn.0 _ _ c.self.view_is (sym c.in_default.ensures.value) in
     absurd cc
-
-pub overflow_sub-self : goal.overflow_sub-self
-overflow_sub-self c =
-    let m = c.self.inside.by_number in
-    let n = c.get_mut.follows.lender c.finish.new.self in
-    let w = over c.args.conn.0 m n _ c.finish.new.self (sym c.in-Some.ensures.value) (c.get_mut.follows.holds c.finish.new.self) in
-    let counted = was-counted _ c.args.conn.0 c.self.inside.live _ _ _ _ (on-opened c.args.conn.0 _ _ m.entries n.entries w) c.finish.ensures.made
-    (c.finish.ensures.over.0 c.if-finish.true) c.self.invariant in
-    omega (arith, counted)

@@ -1,6 +1,6 @@
 use Rattle.std.proofs.Common.{sym, ap, ◌∙◌}
 use Rattle.conn_seat.specs.Outboxes.{OutboxState}
-use Rattle.node_seats.proofs.Faces.{over}
+use Rattle.node_seats.proofs.Faces.{wrote}
 use Rattle.node_seats.proofs.OneQueue.{forgets}
 use Rattle.node_seats.proofs.Shown.{one-outbox, opened-same, outbox-found, over-kept, over-missing, tidy-still}
 use Rattle.node_seats.proofs.seats.Seats.forget.Goals as goal
@@ -13,16 +13,12 @@ forget-requires c = record {
 
 pub invariant_of-self : goal.invariant_of-self
 invariant_of-self c =
-    let m = c.self.inside.by_number in
-    let n = c.get_mut.follows.lender c.forget.new.self in
-    let w = over c.args.conn.0 m n _ c.forget.new.self (sym c.in-Some.ensures.value) (c.get_mut.follows.holds c.forget.new.self) in
-    tidy-still _ _ _ m.entries n.entries w c.self.inside.live c.forget.ensures.opened c.self.invariant
+    let w = wrote c.args.conn.0 _ _ _ _ c.in-Some.ensures.value (c.get_mut.follows.holds c.forget.new.self).0 in
+    tidy-still _ _ _ _ _ w _ c.forget.ensures.opened c.self.invariant
 
 pub returns : goal.returns
 returns c =
-    let m = c.self.inside.by_number in
-    let n = c.get_mut.follows.lender c.forget.new.self in
-    let w = over c.args.conn.0 m n _ c.forget.new.self (sym c.in-Some.ensures.value) (c.get_mut.follows.holds c.forget.new.self) in
+    let w = wrote c.args.conn.0 _ _ _ _ c.in-Some.ensures.value (c.get_mut.follows.holds c.forget.new.self).0 in
     let empty = ap (λ (o : OutboxState). o.queued) (sym (outbox-found _ _ _ c.self.view_is _ (sym c.in-Some.ensures.value))) ∙ c.requires.empty in
     record {
       entries = opened-same _ _ _ _ _ w _ c.self.view_is c.forget.ensures.opened;

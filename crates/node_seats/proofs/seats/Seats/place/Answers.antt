@@ -1,5 +1,5 @@
 use Rattle.std.proofs.Common.{sym}
-use Rattle.node_seats.proofs.Faces.{over}
+use Rattle.node_seats.proofs.Faces.{wrote}
 use Rattle.node_seats.proofs.Moving.{tidy}
 use Rattle.node_seats.proofs.Shown.{live-kept, live-missing, moved-by, on-opened, outbox-same}
 use Rattle.node_seats.proofs.seats.Seats.place.Goals as goal
@@ -9,17 +9,12 @@ place-requires c = live-kept _ _ _ c.self.view_is _ (sym c.in-Some.ensures.value
 
 pub invariant_of-self : goal.invariant_of-self
 invariant_of-self c =
-    let m = c.self.inside.by_number in
-    let n = c.get_mut.follows.lender c.place.new.self in
-    let w = over c.args.conn.0 m n _ c.place.new.self (sym c.in-Some.ensures.value) (c.get_mut.follows.holds c.place.new.self) in
-    tidy c.args.conn.0 c.self.inside.live _ _ _ _ (on-opened c.args.conn.0 _ _ m.entries n.entries w)
-    c.place.ensures.live c.place.ensures.keeps c.self.invariant
+    let w = wrote c.args.conn.0 _ _ _ _ c.in-Some.ensures.value (c.get_mut.follows.holds c.place.new.self).0 in
+    tidy c.args.conn.0 _ _ _ _ _ (on-opened _ _ _ _ _ w) c.place.ensures.live c.place.ensures.keeps c.self.invariant
 
 pub returns : goal.returns
 returns c =
-    let m = c.self.inside.by_number in
-    let n = c.get_mut.follows.lender c.place.new.self in
-    let w = over c.args.conn.0 m n _ c.place.new.self (sym c.in-Some.ensures.value) (c.get_mut.follows.holds c.place.new.self) in
+    let w = wrote c.args.conn.0 _ _ _ _ c.in-Some.ensures.value (c.get_mut.follows.holds c.place.new.self).0 in
     record {
       placed = moved-by _ _ _ _ _ w _ c.self.view_is _ c.place.ensures.placed;
       outs = outbox-same _ _ _ _ _ w _ c.self.view_is c.place.ensures.outbox;

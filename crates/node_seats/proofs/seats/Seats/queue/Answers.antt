@@ -1,6 +1,6 @@
 use Rattle.std.proofs.Common.{◌≤◌, sym, ap, subst, arith}
 use Rattle.conn_seat.specs.Outboxes.{OutboxState}
-use Rattle.node_seats.proofs.Faces.{over}
+use Rattle.node_seats.proofs.Faces.{wrote}
 use Rattle.node_seats.proofs.OneQueue.{queues-one}
 use Rattle.node_seats.proofs.Shown.{one-outbox, opened-same, outbox-found, outbox-missing, tidy-still}
 use Rattle.node_seats.proofs.seats.Seats.queue.Goals as goal
@@ -10,16 +10,12 @@ queue-requires c = subst (λ (o : OutboxState). 1 ≤ o.room) (outbox-found _ _ 
 
 pub invariant_of-self : goal.invariant_of-self
 invariant_of-self c =
-    let m = c.self.inside.by_number in
-    let n = c.get_mut.follows.lender c.queue.new.self in
-    let w = over c.args.more.conn.0 m n _ c.queue.new.self (sym c.in-Some.ensures.value) (c.get_mut.follows.holds c.queue.new.self) in
-    tidy-still _ _ _ m.entries n.entries w c.self.inside.live c.queue.ensures.opened c.self.invariant
+    let w = wrote c.args.more.conn.0 _ _ _ _ c.in-Some.ensures.value (c.get_mut.follows.holds c.queue.new.self).0 in
+    tidy-still _ _ _ _ _ w _ c.queue.ensures.opened c.self.invariant
 
 pub returns : goal.returns
 returns c =
-    let m = c.self.inside.by_number in
-    let n = c.get_mut.follows.lender c.queue.new.self in
-    let w = over c.args.more.conn.0 m n _ c.queue.new.self (sym c.in-Some.ensures.value) (c.get_mut.follows.holds c.queue.new.self) in
+    let w = wrote c.args.more.conn.0 _ _ _ _ c.in-Some.ensures.value (c.get_mut.follows.holds c.queue.new.self).0 in
     record {
       entries = opened-same _ _ _ _ _ w _ c.self.view_is c.queue.ensures.opened;
       queues = queues-one c.args.more _ _ _ _ (one-outbox _ _ _ _ _ w _ c.self.view_is) c.queue.ensures.queued;

@@ -2,7 +2,7 @@ use Rattle.std.proofs.Common.{sym}
 use Rattle.std.proofs.lemmas.Result.{on_ok_weaker}
 use Rattle.conn_seat.specs.Seats.{Becomes}
 use Rattle.node_seats.specs.Numbers.{Lives, Widens}
-use Rattle.node_seats.proofs.Faces.{over}
+use Rattle.node_seats.proofs.Faces.{wrote}
 use Rattle.node_seats.proofs.Moving.{tidy}
 use Rattle.node_seats.proofs.Shown.{live-kept, live-missing, moved-by, on-opened, outbox-same}
 use Rattle.node_seats.proofs.seats.Seats.reserve.Goals as goal
@@ -12,17 +12,12 @@ reserve-requires c = live-kept _ _ _ c.self.view_is _ (sym c.in-Some.ensures.val
 
 pub invariant_of-self : goal.invariant_of-self
 invariant_of-self c =
-    let m = c.self.inside.by_number in
-    let n = c.get_mut.follows.lender c.reserve.new.self in
-    let w = over c.args.conn.0 m n _ c.reserve.new.self (sym c.in-Some.ensures.value) (c.get_mut.follows.holds c.reserve.new.self) in
-    tidy c.args.conn.0 c.self.inside.live _ _ _ _ (on-opened c.args.conn.0 _ _ m.entries n.entries w)
-    c.reserve.ensures.live c.reserve.ensures.keeps c.self.invariant
+    let w = wrote c.args.conn.0 _ _ _ _ c.in-Some.ensures.value (c.get_mut.follows.holds c.reserve.new.self).0 in
+    tidy c.args.conn.0 _ _ _ _ _ (on-opened _ _ _ _ _ w) c.reserve.ensures.live c.reserve.ensures.keeps c.self.invariant
 
 pub returns : goal.returns
 returns c =
-    let m = c.self.inside.by_number in
-    let n = c.get_mut.follows.lender c.reserve.new.self in
-    let w = over c.args.conn.0 m n _ c.reserve.new.self (sym c.in-Some.ensures.value) (c.get_mut.follows.holds c.reserve.new.self) in
+    let w = wrote c.args.conn.0 _ _ _ _ c.in-Some.ensures.value (c.get_mut.follows.holds c.reserve.new.self).0 in
     record {
       same = moved-by _ _ _ _ _ w _ c.self.view_is (Lives Becomes) c.reserve.ensures.same;
       ok = on_ok_weaker c.reserve.result (moved-by _ _ _ _ _ w _ c.self.view_is (Lives (Widens c.args.more))) c.reserve.ensures.ok;

@@ -1,23 +1,19 @@
 use Rattle.std.proofs.Common.{◌≡◌, true, false, sym, ap, ◌∙◌}
 use Rattle.std.specs.Prelude.{is_some}
 use Rattle.std.proofs.lemmas.Result.{on_ok_weaker}
-use Rattle.node_seats.proofs.Faces.{over}
+use Rattle.node_seats.proofs.Faces.{wrote}
 use Rattle.node_seats.proofs.OneQueue.{widens}
 use Rattle.node_seats.proofs.Shown.{one-outbox, opened-missing, opened-same, tidy-still}
 use Rattle.node_seats.proofs.seats.Seats.reserve_one.Goals as goal
 
 pub invariant_of-self : goal.invariant_of-self
 invariant_of-self c =
-    let m = c.self.inside.by_number in
-    let n = c.get_mut.follows.lender c.reserve_outs.new.self in
-    let w = over c.args.conn.0 m n _ c.reserve_outs.new.self (sym c.in-Some.ensures.value) (c.get_mut.follows.holds c.reserve_outs.new.self) in
-    tidy-still _ _ _ m.entries n.entries w c.self.inside.live c.reserve_outs.ensures.opened c.self.invariant
+    let w = wrote c.args.conn.0 _ _ _ _ c.in-Some.ensures.value (c.get_mut.follows.holds c.reserve_outs.new.self).0 in
+    tidy-still _ _ _ _ _ w _ c.reserve_outs.ensures.opened c.self.invariant
 
 pub returns : goal.returns
 returns c =
-    let m = c.self.inside.by_number in
-    let n = c.get_mut.follows.lender c.reserve_outs.new.self in
-    let w = over c.args.conn.0 m n _ c.reserve_outs.new.self (sym c.in-Some.ensures.value) (c.get_mut.follows.holds c.reserve_outs.new.self) in
+    let w = wrote c.args.conn.0 _ _ _ _ c.in-Some.ensures.value (c.get_mut.follows.holds c.reserve_outs.new.self).0 in
     let one = one-outbox _ _ _ _ _ w _ c.self.view_is in
     record {
       entries = opened-same _ _ _ _ _ w _ c.self.view_is c.reserve_outs.ensures.opened;

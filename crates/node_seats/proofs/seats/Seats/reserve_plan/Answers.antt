@@ -1,7 +1,7 @@
 use Rattle.std.proofs.Common.{sym}
 use Rattle.std.proofs.lemmas.Result.{on_ok_weaker, on_err_weaker}
 use Rattle.node_seats.specs.Numbers.{Lives, Prepares}
-use Rattle.node_seats.proofs.Faces.{over}
+use Rattle.node_seats.proofs.Faces.{wrote}
 use Rattle.node_seats.proofs.Moving.{tidy}
 use Rattle.node_seats.proofs.Shown.{live-kept, live-missing, moved-by, on-opened, one-outbox, opened-same}
 use Rattle.node_seats.proofs.OneQueue.{widens}
@@ -12,17 +12,12 @@ reserve_plan-requires c = live-kept _ _ _ c.self.view_is _ (sym c.in-Some.ensure
 
 pub invariant_of-self : goal.invariant_of-self
 invariant_of-self c =
-    let m = c.self.inside.by_number in
-    let n = c.get_mut.follows.lender c.reserve_plan.new.self in
-    let w = over c.args.conn.0 m n _ c.reserve_plan.new.self (sym c.in-Some.ensures.value) (c.get_mut.follows.holds c.reserve_plan.new.self) in
-    tidy c.args.conn.0 c.self.inside.live _ _ _ _ (on-opened c.args.conn.0 _ _ m.entries n.entries w)
-    c.reserve_plan.ensures.live c.reserve_plan.ensures.keeps c.self.invariant
+    let w = wrote c.args.conn.0 _ _ _ _ c.in-Some.ensures.value (c.get_mut.follows.holds c.reserve_plan.new.self).0 in
+    tidy c.args.conn.0 _ _ _ _ _ (on-opened _ _ _ _ _ w) c.reserve_plan.ensures.live c.reserve_plan.ensures.keeps c.self.invariant
 
 pub returns : goal.returns
 returns c =
-    let m = c.self.inside.by_number in
-    let n = c.get_mut.follows.lender c.reserve_plan.new.self in
-    let w = over c.args.conn.0 m n _ c.reserve_plan.new.self (sym c.in-Some.ensures.value) (c.get_mut.follows.holds c.reserve_plan.new.self) in
+    let w = wrote c.args.conn.0 _ _ _ _ c.in-Some.ensures.value (c.get_mut.follows.holds c.reserve_plan.new.self).0 in
     let one = one-outbox _ _ _ _ _ w _ c.self.view_is in
     record {
       ok = on_ok_weaker c.reserve_plan.result (moved-by _ _ _ _ _ w _ c.self.view_is (Lives (Prepares c.args.plan.now.change))) c.reserve_plan.ensures.ok;

@@ -3,24 +3,19 @@ use Rattle.std.proofs.lemmas.Result.{IfOk-weaker}
 use Rattle.conn_seat.specs.Seats.{Becomes, with_taken}
 use Rattle.node_seats.specs.Numbers.{Lives, Opened, seat_in}
 use Rattle.node_seats.specs.Turned.{errand_in}
-use Rattle.node_seats.proofs.Faces.{over}
+use Rattle.node_seats.proofs.Faces.{wrote}
 use Rattle.node_seats.proofs.Moving.{tidy}
 use Rattle.node_seats.proofs.Shown.{moved-by, on-opened, opened-found, opened-missing, outbox-same, same-again, same-unless}
 use Rattle.node_seats.proofs.seats.Seats.take.Goals as goal
 
 pub invariant_of-self-2 : goal.invariant_of-self-2
 invariant_of-self-2 c =
-    let m = c.self.inside.by_number in
-    let n = c.get_mut.follows.lender c.take.new.self in
-    let w = over c.args.conn.0 m n _ c.take.new.self (sym c.in-Some.ensures.value) (c.get_mut.follows.holds c.take.new.self) in
-    tidy c.args.conn.0 c.self.inside.live _ _ _ _ (on-opened c.args.conn.0 _ _ m.entries n.entries w)
-    c.take.ensures.live c.take.ensures.keeps c.self.invariant
+    let w = wrote c.args.conn.0 _ _ _ _ c.in-Some.ensures.value (c.get_mut.follows.holds c.take.new.self).0 in
+    tidy c.args.conn.0 _ _ _ _ _ (on-opened _ _ _ _ _ w) c.take.ensures.live c.take.ensures.keeps c.self.invariant
 
 pub returns : goal.returns
 returns c =
-    let m = c.self.inside.by_number in
-    let n = c.get_mut.follows.lender c.take.new.self in
-    let w = over c.args.conn.0 m n _ c.take.new.self (sym c.in-Some.ensures.value) (c.get_mut.follows.holds c.take.new.self) in
+    let w = wrote c.args.conn.0 _ _ _ _ c.in-Some.ensures.value (c.get_mut.follows.holds c.take.new.self).0 in
     let found = opened-found _ _ _ c.self.view_is _ (sym c.in-Some.ensures.value) in
     record {
       answer = IfOk-weaker c.take.result _ _ (λ e is. is ∙ ap (λ o. errand_in (seat_in o)) (sym found)) c.take.ensures.answer;

@@ -2,23 +2,19 @@ use Rattle.std.proofs.Common.{ℕ, sym, ap, ◌∙◌}
 use Rattle.std.specs.BTreeMap.{BTreeMap}
 use Rattle.node_seats.specs.declared.slots.Slot.{Slot}
 use Rattle.node_seats.specs.Numbers.{NodeSeats}
-use Rattle.node_seats.proofs.Faces.{over}
+use Rattle.node_seats.proofs.Faces.{wrote}
 use Rattle.node_seats.proofs.OneQueue.{takes, takes-none}
 use Rattle.node_seats.proofs.Shown.{one-outbox, opened-same, outbox-missing, outbox-same, shown, tidy-still}
 use Rattle.node_seats.proofs.seats.Seats.take_out.Goals as goal
 
 pub invariant_of-self-2 : goal.invariant_of-self-2
 invariant_of-self-2 c =
-    let m = c.self.inside.by_number in
-    let n = c.get_mut.follows.lender c.take_out.new.self in
-    let w = over c.args.conn.0 m n _ c.take_out.new.self (sym c.in_ok-get_mut.ensures.value) (c.get_mut.follows.holds c.take_out.new.self) in
-    tidy-still _ _ _ m.entries n.entries w c.self.inside.live c.take_out.ensures.opened c.self.invariant
+    let w = wrote c.args.conn.0 _ _ _ _ c.in_ok-get_mut.ensures.value (c.get_mut.follows.holds c.take_out.new.self).0 in
+    tidy-still _ _ _ _ _ w _ c.take_out.ensures.opened c.self.invariant
 
 pub returns : goal.returns
 returns c =
-    let m = c.self.inside.by_number in
-    let n = c.get_mut.follows.lender c.take_out.new.self in
-    let w = over c.args.conn.0 m n _ c.take_out.new.self (sym c.in_ok-get_mut.ensures.value) (c.get_mut.follows.holds c.take_out.new.self) in
+    let w = wrote c.args.conn.0 _ _ _ _ c.in_ok-get_mut.ensures.value (c.get_mut.follows.holds c.take_out.new.self).0 in
     record {
       entries = opened-same _ _ _ _ _ w _ c.self.view_is c.take_out.ensures.opened;
       out = takes _ _ _ _ _ (one-outbox _ _ _ _ _ w _ c.self.view_is) c.take_out.result c.take_out.ensures.taken (outbox-same _ _ _ _ _ w _ c.self.view_is);

@@ -10,8 +10,8 @@ use Rattle.node_world.proofs.parts.Parts.boot.Goals as goal
 pub returns-clause-steps : goal.returns-clause-steps
 returns-clause-steps c =
     let h = held c.args.self.now in
-    let p : Post = record { node = c.in_ok-booted.booted; turn = turn_out.None } in
-    let e = c.in_ok-booted.ensures in
+    let p : Post = record { node = c.boot_unlogged.result; turn = turn_out.None } in
+    let e = c.boot_unlogged.ensures in
     let none = none-of (post_at c.args.node.0 h.posts) (sym c.contains_key.ensures ∙ c.if-contains_key.false) in
     rw c.silent.ensures
     (boot_steps (rules_of c.args.self.now.book) h _ c.args.node p c.in_ok-last.last none c.in_ok-insert.ensures.updates.0 c.in_ok-last.ensures.last (ap (λ (x : NodeNo). x.0) e.no) e.booted e.taken refl

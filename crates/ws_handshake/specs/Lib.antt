@@ -1,0 +1,5 @@
+pub mod Requests
+pub mod Replies
+pub mod Stages
+pub mod Heard
+pub mod Shakes
