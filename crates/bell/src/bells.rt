@@ -6,6 +6,10 @@ use std::time::{Clock, Duration};
 ///
 /// A ring that nobody waits for is kept for the next wait, up to as many as there are who wait here. So who looks for work, finds none and then
 /// waits doesn't sleep through a ring that came in between. A wait may end for work that another one has done meanwhile: look again.
+///
+/// Its calls have no clauses. Between two of them others may ring and wait, so nothing that holds of the rings when a call returns is still
+/// known to its caller, and of a locked value a proof knows what its type says. What a ring and a wait do to the rings, under the lock,
+/// is said and proved of `Rings`, and `rings_are_not_lost` is the law over it.
 #[derive(Drop)]
 pub struct Bell {
     rings: Mutex<Rings>,

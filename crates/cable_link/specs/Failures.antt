@@ -22,3 +22,8 @@ module _ {S : Type 0} where
   abbrev pub IsClosedBehind : Bool → Socket S → Result Came Trouble → Socket S → Type 0
   IsClosedBehind true old result new = (result ≡ Ok came.Closed) × (new ≡ old)
   IsClosedBehind false old result new = Unit {0}
+
+  -- .. and refuses what is said to it, which its socket doesn't see
+  abbrev pub IsRefusedBehind : Bool → Socket S → Result (Unit {0}) Trouble → Socket S → Type 0
+  IsRefusedBehind true old result new = (result ≡ Err trouble.Failed) × (new ≡ old)
+  IsRefusedBehind false old result new = Unit {0}

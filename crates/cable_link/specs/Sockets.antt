@@ -3,6 +3,8 @@ use Rattle.std.specs.Prelude.{◌≡◌, ℕ, List, Option, Result, Ok, Err, OnO
 use Rattle.cable_base.specs.declared.faults.Trouble.{Trouble}
 use Rattle.cable_link.specs.declared.links.Came.{Came}
 use Rattle.cable_link.specs.declared.links.Came.TheVariants as came
+use Rattle.cable_link.specs.declared.sockets.Goodbye.{Goodbye}
+use Rattle.cable_link.specs.declared.sockets.Goodbye.TheVariants as goodbye
 use Rattle.tungstenite.specs.Connection.{write_step}
 use Rattle.tungstenite.specs.Content as content
 use Rattle.tungstenite.specs.Failure.{IsIo}
@@ -21,6 +23,12 @@ GivesNone came.Quiet = Unit {0}
 abbrev pub IsTaken : Result (Unit {0}) Error → Type 0
 IsTaken (Ok _) = Unit {0}
 IsTaken (Err e) = IsIo e
+
+-- the number that tells a peer why its socket is closed (RFC 6455, section 7.4.1)
+abbrev pub code_of : Goodbye → ℕ
+code_of goodbye.Ended = 1000
+code_of goodbye.TooLong = 1009
+code_of goodbye.NoMemory = 1011
 
 module _ {S : Type 0} where
   -- a text is that of a message which was read, and a message that isn't a text was read as such

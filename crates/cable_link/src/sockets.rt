@@ -1,10 +1,13 @@
-ghost use Rattle.std.specs.Prelude.{◌≡◌, ◌≤◌, IfOk, OnOk, false, true};
+ghost use Rattle.std.specs.Prelude.{◌≡◌, ◌≤◌, [], Some, IfOk, OnOk, false, true};
 ghost use Rattle.cable_base.specs.Causes.{Rose};
 ghost use Rattle.cable_base.specs.Troubles.{HasTrouble};
 ghost use Rattle.cable_base.specs.declared.faults.Trouble.TheVariants as trouble;
 ghost use Rattle.cable_link.specs.Backlogs.{Leaves, WaitsSince, is_waiting, since};
 ghost use Rattle.cable_link.specs.Failures.{failed_by};
-ghost use Rattle.cable_link.specs.Sockets.{GivesNone, IsTaken};
+ghost use Rattle.cable_link.specs.Sockets.{GivesNone, IsTaken, code_of};
+ghost use Rattle.tungstenite.specs.CloseCode.{close_code_of};
+ghost use Rattle.tungstenite.specs.Connection.{close_step};
+ghost use Rattle.tungstenite.specs.Socket.{Flushed, Writes};
 
 use crate::backlogs::Backlog;
 use crate::counted::CountedStream;
@@ -27,13 +30,27 @@ pub enum Goodbye {
     NoMemory,
 }
 
+impl Goodbye {
+    fn code(&self) -> CloseCode
+        ensures { result ≡ close_code_of (code_of self.now) }
+    {
+        match self {
+            Goodbye::Ended => CloseCode::Normal,
+            Goodbye::TooLong => CloseCode::Size,
+            Goodbye::NoMemory => CloseCode::Error,
+        }
+    }
+}
+
 /// A link over a socket whose stream doesn't block.
 ///
 /// No call waits: `next` is quiet where nothing is there, and what the peer doesn't take at once stands in the socket's output until `flush`
 /// hands it on. `K` gives a client's masking keys; a server has `NoMask`. A binary message is passed over, and so are a ping, which is
 /// answered, and a pong.
 ///
-/// A fault is told once: behind it `next` gives that the link is closed, whatever the socket would say.
+/// A fault is told once by `next`: behind it the link is closed, whatever the socket would say. Behind it `say` is refused too, and
+/// each refusal counts: the client is told nothing that came after something that it missed. `flush` and `close` go to the socket
+/// as before, so that the client can still be told why, where its stream takes it.
 #[derive(Drop)]
 pub struct WsLink<K> {
     socket: WebSocket<CountedStream, K>,
@@ -110,12 +127,13 @@ impl<K: MaskKeys + Drop> WsLink<K> {
         self.socket.get_ref().taken()
     }
 
-    /// Offers what waits to the peer, at this moment of the caller's clock. What it doesn't take goes on waiting. It is refused where the
-    /// stream fails.
+    /// Offers what waits to the peer, at this moment of the caller's clock, behind a fault too. What it doesn't take goes on waiting. It
+    /// is refused where the stream fails, and then what waits is kept.
     pub fn flush(&mut self, at: Millis) -> Result<(), Trouble>
         ensures cause { HasTrouble (⟦<WsLink<K> as Link>⟧.faults self.old) (⟦<WsLink<K> as Link>⟧.faults self.new) result }
         ensures calm { OnOk result (⟦<WsLink<K> as Link>⟧.faults self.new ≡ ⟦<WsLink<K> as Link>⟧.faults self.old) }
         ensures failed { self.new.has_failed ≡ failed_by self.old.has_failed result }
+        ensures hands_on { Flushed ⟦<CountedStream as Write>⟧.contents self.old.socket self.new.socket }
         ensures waits { WaitsSince at (since self.old.backlog self.old.socket.stream.taken)
             self.old.socket.stream.taken self.new.socket.stream.taken self.new.backlog }
     {
@@ -128,18 +146,17 @@ impl<K: MaskKeys + Drop> WsLink<K> {
         settled
     }
 
-    /// Says why the socket is closed, once. Behind that nothing can be said; what is still to come can be read, until the peer has
-    /// closed too. It is refused where the stream fails or memory is wanted.
+    /// Says why the socket is closed, once, behind a fault too; a further call says nothing more. Behind that nothing can be said; what
+    /// is still to come can be read, until the peer has closed too, but for a link that has failed. It is refused where the stream fails
+    /// or memory is wanted.
     pub fn close(&mut self, why: Goodbye) -> Result<(), Trouble>
         ensures cause { HasTrouble (⟦<WsLink<K> as Link>⟧.faults self.old) (⟦<WsLink<K> as Link>⟧.faults self.new) result }
         ensures calm { OnOk result (⟦<WsLink<K> as Link>⟧.faults self.new ≡ ⟦<WsLink<K> as Link>⟧.faults self.old) }
         ensures failed { self.new.has_failed ≡ failed_by self.old.has_failed result }
+        ensures tells { OnOk result (Writes ⟦<CountedStream as Write>⟧.contents self.old.socket self.new.socket
+            (close_step self.old.socket.conn (Some (close_code_of (code_of why), [])))) }
     {
-        let code = match why {
-            Goodbye::Ended => CloseCode::Normal,
-            Goodbye::TooLong => CloseCode::Size,
-            Goodbye::NoMemory => CloseCode::Error,
-        };
+        let code = why.code();
         let reason = Utf8Bytes::new();
         let closed = self.socket.close(Some(CloseFrame { code, reason }));
         self.settle(closed)
@@ -229,7 +246,7 @@ impl<K: MaskKeys + Drop> WsLink<K> {
 
 impl<K: MaskKeys + Drop> Link for WsLink<K> {
     ghost use Rattle.std.specs.Prelude.{None};
-    ghost use Rattle.cable_link.specs.Failures.{IsClosedBehind, failed_by};
+    ghost use Rattle.cable_link.specs.Failures.{IsClosedBehind, IsRefusedBehind, failed_by};
     ghost use Rattle.cable_link.specs.Sockets.{GivesRead, HandsOn};
 
     ghost coming = { λ _. None };
@@ -245,6 +262,7 @@ impl<K: MaskKeys + Drop> Link for WsLink<K> {
 
     ghost says = { λ old text result new.
         HandsOn ⟦<CountedStream as Write>⟧.contents old.socket text result new.socket
+        × IsRefusedBehind old.has_failed old.socket result new.socket
         × (new.has_failed ≡ failed_by old.has_failed result) };
 
     fn next(&mut self) -> Result<Came, Trouble> {
@@ -273,6 +291,9 @@ impl<K: MaskKeys + Drop> Link for WsLink<K> {
     }
 
     fn say(&mut self, text: &str) -> Result<(), Trouble> {
+        if self.has_failed {
+            return Err(self.failed());
+        }
         let Ok(message) = Message::text(self.alloc, text) else {
             return Err(Trouble::OutOfMemory);
         };

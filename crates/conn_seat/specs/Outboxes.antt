@@ -38,6 +38,6 @@ abbrev pub Takes : Option Out → OutboxState → OutboxState → Type 0
 Takes None v new = (v.queued ≡ []) × (new ≡ v)
 Takes (Some out) v new = (v.queued ≡ out ∷ new.queued) × (new.taken ≡ v.taken + 1) × (new.forgotten ≡ v.forgotten)
 
--- only how many were taken out is kept
-abbrev pub forgotten_of : OutboxState → OutboxState
-forgotten_of v = record { queued = []; taken = v.taken; room = 0; forgotten = true }
+-- of one that was forgotten only this is kept: how many were taken out
+abbrev pub forgotten_after : ℕ → OutboxState
+forgotten_after taken = record { queued = []; taken = taken; room = 0; forgotten = true }

@@ -1,5 +1,5 @@
 ghost use Rattle.std.specs.Prelude.{◌≡◌, ◌≤◌, [], true, false, length, OnOk};
-ghost use Rattle.conn_seat.specs.Outboxes.{Widens, Puts, PutsAll, Takes, forgotten_of, unused};
+ghost use Rattle.conn_seat.specs.Outboxes.{Widens, Puts, PutsAll, Takes, forgotten_after, unused};
 
 use crate::outs::Out;
 use cable_base::OutOfMemory;
@@ -37,6 +37,18 @@ impl Outbox {
             taken: 0,
             room: 0,
             forgotten: false,
+        }
+    }
+
+    /// What is left of an outbox that was forgotten, after so many were taken out of it: nothing is queued. It takes no memory.
+    pub fn forgotten(alloc: Global, taken: u64) -> Outbox
+        ensures { result ≡ forgotten_after taken }
+    {
+        Outbox {
+            queued: VecDeque::new(alloc),
+            taken,
+            room: 0,
+            forgotten: true,
         }
     }
 
@@ -85,14 +97,11 @@ impl Outbox {
         Some(first)
     }
 
-    /// Gives back the memory of the queue, and marks it as forgotten. How many were taken out stays. It takes no memory.
-    pub fn forget(&mut self, alloc: Global)
-        requires { self.old.queued ≡ [] }
-        ensures { self.new ≡ forgotten_of self.old }
+    /// How many were taken out.
+    pub fn taken(&self) -> u64
+        ensures { result ≡ self.now.taken }
     {
-        self.queued = VecDeque::new(alloc);
-        self.room = 0;
-        self.forgotten = true;
+        self.taken
     }
 
     /// Whether it was forgotten.

@@ -20,7 +20,8 @@ enum Act {
     /// Nothing is queued, and nothing is taken out.
     IsSilent,
     HasSome,
-    /// Forgets it, where nothing is queued.
+    HasTaken(u64),
+    /// Keeps what is left of it once it is forgotten, where nothing is queued.
     Forgets(bool),
     IsForgotten(bool),
 }
@@ -68,7 +69,7 @@ fn forgets(outbox: &mut Outbox, alloc: Global) -> bool {
     if !outbox.is_empty() {
         return false;
     }
-    outbox.forget(alloc);
+    *outbox = Outbox::forgotten(alloc, outbox.taken());
     true
 }
 
@@ -83,6 +84,7 @@ fn does(outbox: &mut Outbox, alloc: Global, act: Act) -> Result<bool, OutOfMemor
         Act::Reads(note) => Ok(reads(outbox, note)),
         Act::IsSilent => Ok(outbox.is_empty() && outbox.take_out().is_none()),
         Act::HasSome => Ok(!outbox.is_empty()),
+        Act::HasTaken(count) => Ok(outbox.taken() == count),
         Act::Forgets(done) => Ok(forgets(outbox, alloc) == done),
         Act::IsForgotten(is_so) => Ok(outbox.is_forgotten() == is_so),
     }
@@ -139,10 +141,16 @@ fn is_forgotten_when_empty(rt: HostRuntime) -> Result<(), Fail> {
         Act::Says("one"),
         Act::Forgets(false),
         Act::IsForgotten(false),
+        Act::HasTaken(0),
         Act::Hears("one"),
         Act::Forgets(true),
         Act::IsForgotten(true),
+        Act::HasTaken(1),
         Act::IsSilent,
+        Act::Says("two"),
+        Act::Hears("two"),
+        Act::HasTaken(2),
+        Act::IsForgotten(true),
     ];
     assert_eq!(rt; first_fault(rt.alloc(), acts.as_slice())?, None);
     Ok(())

@@ -1,7 +1,7 @@
-use crate::loopback::{ClientLink, ROUNDS, client, letters, linked, next_of, sleep};
+use crate::loopback::{ClientLink, ROUNDS, client, letters, linked, next_of, read_by, sleep};
 use cable_base::{Millis, Trouble};
 use cable_link::{Came, Goodbye, Link, MESSAGE_LIMIT, WsLink};
-use std::io::Write;
+use std::io::{Read, Write};
 use std::test::Fail;
 use tungstenite::NoMask;
 
@@ -91,5 +91,43 @@ fn a_reset_is_told_once(rt: HostRuntime) -> Result<(), Fail> {
     assert!(rt; is_told_once(&rt, &mut link)?);
     assert!(rt; link.has_failed());
     assert_eq!(rt; link.say("late"), Err(Trouble::Failed));
+    // Nothing waits in the link, so there is nothing to fail at; a close would have to be written.
+    assert_eq!(rt; link.flush(Millis(1)), Ok(()));
+    assert_eq!(rt; link.close(Goodbye::Ended), Err(Trouble::Failed));
+    assert_eq!(rt; link.flush(Millis(2)), Err(Trouble::Failed));
+    Ok(())
+}
+
+/// A link whose client broke the protocol says no text any more, and still tells why it closes, once.
+#[test]
+fn a_link_that_has_failed_says_only_why_it_closes(rt: HostRuntime) -> Result<(), Fail> {
+    let (mut link, mut there) = linked(&rt)?;
+    there.write_all(&[0x81, 0x01, b'a'])?;
+    assert!(rt; is_told_once(&rt, &mut link)?);
+    assert_eq!(rt; link.say("late"), Err(Trouble::Failed));
+    assert_eq!(rt; link.flush(Millis(1)), Ok(()));
+    assert_eq!(rt; link.close(Goodbye::NoMemory), Ok(()));
+    assert_eq!(rt; link.close(Goodbye::Ended), Ok(()));
+    assert_eq!(rt; link.say("later"), Err(Trouble::Failed));
+    drop(link);
+    assert_eq!(rt; read_by::<4>(&mut there)?, [0x88, 0x02, 0x03, 0xf3]);
+    assert_eq!(rt; there.read(&mut [0u8; 1])?, 0);
+    Ok(())
+}
+
+/// What is said to a client that has closed is refused. What waits is nothing, and the close was answered.
+#[test]
+fn nothing_is_said_to_a_client_that_has_closed(rt: HostRuntime) -> Result<(), Fail> {
+    let (mut link, mut there) = linked(&rt)?;
+    there.write_all(&[0x88, 0x82, 0, 0, 0, 0, 0x03, 0xe8])?;
+    assert_eq!(rt; first_of(&rt, &mut link)?, Ok(Came::Closed));
+    assert!(rt; !link.has_failed());
+    assert_eq!(rt; link.flush(Millis(1)), Ok(()));
+    assert_eq!(rt; link.close(Goodbye::TooLong), Ok(()));
+    assert_eq!(rt; link.say("late"), Err(Trouble::Failed));
+    assert_eq!(rt; link.next(), Ok(Came::Closed));
+    drop(link);
+    assert_eq!(rt; read_by::<4>(&mut there)?, [0x88, 0x02, 0x03, 0xe8]);
+    assert_eq!(rt; there.read(&mut [0u8; 1])?, 0);
     Ok(())
 }

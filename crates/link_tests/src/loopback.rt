@@ -49,6 +49,13 @@ pub(crate) fn sleep(rt: &HostRuntime, millis: u64) {
     thread::sleep(rt, Duration::from_millis(millis));
 }
 
+/// What a client reads of so many bytes that the server said.
+pub(crate) fn read_by<const N: usize>(there: &mut TcpStream) -> Result<[u8; N], Fail> {
+    let mut bytes = [0u8; N];
+    there.read_exact(&mut bytes)?;
+    Ok(bytes)
+}
+
 /// Fails a test where this doesn't hold.
 pub(crate) fn expect(holds: bool, what: &'static str) -> Result<(), Fail> {
     if holds { Ok(()) } else { Err(Fail::from(what)) }

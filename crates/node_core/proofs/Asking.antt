@@ -15,7 +15,7 @@ use Rattle.cable_model.specs.Steps.{Step}
 use Rattle.cable_model.specs.Wants.{lower}
 use Rattle.node_turns.proofs.HeldNames.{names-held}
 use Rattle.node_turns.proofs.HoldsStaying.{held-missed, held-steady}
-use Rattle.node_seats.specs.Outboxes.{OutboxesState}
+use Rattle.node_seats.specs.Outboxes.{OutboxesState, forgotten_at}
 use Rattle.node_seats.specs.declared.turning.Wanted.{Wanted}
 use Rattle.node_seats.specs.Numbers.{Numbers}
 use Rattle.node_seats.proofs.Delivering.{turn-missed}
@@ -62,7 +62,7 @@ module _ {past : List Step} {v : Numbers} {outs : OutboxesState} {k : CursorStat
         queues = λ c. quiet c past (Step.Ask turn ∷ past) outs refl (h.queues c);
         listens = record { lower_is = ap (λ (x : CursorState). x.lower.0) now ∙ h.listens.lower_is; turns = ap (λ (x : CursorState). x.turns) now; out = ap (λ (x : CursorState). x.is_out) now };
         held = held-steady (Step.Ask turn) past holds refl h.held;
-        wished = wished-ask turn past ws taken h.wished;
+        wished = wished-ask turn past (λ c. forgotten_at c outs) ws taken h.wished;
       }
 
 -- the turn that was asked is the next one
@@ -137,5 +137,5 @@ module _ {past : List Step} {v : Numbers} {outs : OutboxesState} {k : CursorStat
           out = ap (λ (y : CursorState). y.is_out) now;
         };
         held = held-missed caught.number (note_in caught) past holds missed h.held;
-        wished = wished-missed caught.number (note_in caught) past ws taken missed h.wished;
+        wished = wished-missed caught.number (note_in caught) past (λ c. forgotten_at c outs) ws taken missed h.wished;
       }

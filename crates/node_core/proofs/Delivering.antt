@@ -12,7 +12,7 @@ use Rattle.conn_seat.specs.Turns.{with_turn}
 use Rattle.node_turns.specs.Holding.{placings_of, rows_bring, with_placings}
 use Rattle.node_turns.proofs.RowsBring.{brings-rows}
 use Rattle.node_turns.proofs.PlacingTurn.{places-held}
-use Rattle.node_seats.specs.Outboxes.{OutboxesState}
+use Rattle.node_seats.specs.Outboxes.{OutboxesState, forgotten_at}
 use Rattle.node_seats.specs.declared.turning.Delivery.{Delivery}
 use Rattle.node_seats.specs.declared.turning.Wanted.{Wanted}
 use Rattle.node_seats.specs.Numbers.{Numbers, Opened, opened_at}
@@ -46,14 +46,14 @@ module _ {past : List Step} {v : Numbers} {outs : OutboxesState} {k : CursorStat
       ap (pieces_for c) is
       ∙ (pieces-for-more c (rows_bring holds note.rows) (confirms_of v (take taken ws))
       ∙ (ap (λ (ps : List Piece). ps ++ pieces_for c (confirms_of v (take taken ws))) (brings-rows c note.rows past holds h.legal h.held shut)
-      ∙ ap (λ (ps : List Piece). rows_puts (user_of c past) (marks c past) (seat c past).conn.subs note.rows ++ ps) (turn-confirms c note past v s ws taken h.legal out found h.numbers h.wished at)))
+      ∙ ap (λ (ps : List Piece). rows_puts (user_of c past) (marks c past) (seat c past).conn.subs note.rows ++ ps) (turn-confirms c note past v s (λ d. forgotten_at d outs) ws taken h.legal out found h.numbers h.wished at)))
 
   turns-all : (note : ReadNote) (v1 v2 v3 : Numbers) (ds : List Delivery) → Stands past v outs k holds ws taken → is_out past ≡ true → note.failed ≡ false
       → ds ≡ rows_bring holds note.rows ++ confirms_of v (take taken ws) → Roomier v v1 → Places note.last (take taken ws) v1 v2 → Delivers ds v2 v3
       → Turns (λ c s t. Becomes (with_turn (turn_mark c note past) (deliver_puts (user_of c past) (marks c past) (turn_mark c note past) (seat c past).conn.subs note.rows) s) t) v v3
   turns-all note v1 v2 v3 ds h out found is room places puts =
       turn-calls (λ c. turn_mark c note past) (λ c. deliver_puts (user_of c past) (marks c past) (turn_mark c note past) (seat c past).conn.subs note.rows) note.last (take taken ws) ds v v1 v2 v3
-      (λ c s at. turn-places c note past s ws taken h.legal out found (h.numbers.each c (Opened.Live s) at).0 h.wished)
+      (λ c s at. turn-places c note past s (λ d. forgotten_at d outs) ws taken h.legal out found (h.numbers.each c (Opened.Live s) at).0 h.wished)
       (λ c s at. puts-are c note s ds h out found is at)
       room places puts
 
@@ -77,6 +77,6 @@ module _ {past : List Step} {v : Numbers} {outs : OutboxesState} {k : CursorStat
           turns = ap (λ (y : CursorState). y.turns) now ∙ h.listens.turns;
           out = ap (λ (y : CursorState). y.is_out) now;
         };
-        held = places-held caught.number (note_in caught) past v ws taken holds h.legal x.out found h.numbers h.wished h.held;
-        wished = wished-found caught.number (note_in caught) past ws taken h.legal x.out found h.wished;
+        held = places-held caught.number (note_in caught) past v (λ d. forgotten_at d outs) ws taken holds h.legal x.out found h.numbers h.wished h.held;
+        wished = wished-found caught.number (note_in caught) past (λ d. forgotten_at d outs) ws taken h.legal x.out found h.wished;
       }

@@ -33,7 +33,7 @@ use Rattle.node_turns.specs.Holding.{released}
 use Rattle.node_turns.proofs.HoldsEnding.{held-finish}
 use Rattle.conn_seat.specs.declared.outs.Out.{Out}
 use Rattle.conn_seat.specs.declared.outs.Out.TheVariants as out
-use Rattle.node_seats.specs.Outboxes.{OutboxesState, Queues, WidensAll, all_on, outs_for}
+use Rattle.node_seats.specs.Outboxes.{OutboxesState, Queues, WidensAll, all_on, outs_for, forgotten_at}
 use Rattle.node_seats.specs.AreSeats.{AreSeats}
 use Rattle.node_seats.specs.declared.turning.Wanted.{Wanted}
 use Rattle.node_seats.specs.Numbers.{Numbers, Opened, Moves, Lives, Prepares, Finished, opened_at, seat_at, seat_in}
@@ -43,7 +43,7 @@ use Rattle.node_seats.proofs.Onward.{used-is}
 use Rattle.poll_turn.specs.Turns.{CursorState}
 use Rattle.subscriber_map.specs.HoldMaps.{HoldMap}
 use Rattle.node_turns.specs.Wished.{AreWished, number_named, wanted_above, wanted_with}
-use Rattle.node_turns.proofs.Wishing.{wished-finish}
+use Rattle.node_turns.proofs.Wishing.{wished-as, wished-finish}
 use Rattle.node_core.specs.Finishing.{IsOutIn, outs_of}
 use Rattle.node_core.specs.Jobs.{Fits, IsWork, WorkState, task_out}
 use Rattle.node_core.specs.Nodes.{NodeState, Stands, line_on}
@@ -344,6 +344,7 @@ module _ {past : List Step} {v : Numbers} {outs : OutboxesState} {k : CursorStat
         listens = record { lower_is = h.listens.lower_is; turns = h.listens.turns; out = h.listens.out };
         held = held-finish conn.0 puts plan past s holds legal at.seated h.held;
         wished =
-            subst (λ (more : List Wanted). AreWished (Step.Finish conn.0 puts plan ∷ past) (ws ++ more) taken)
-            (wanted-is conn.0 place past s plan.change at.seated is) (wished-finish conn.0 puts plan past ws taken legal h.wished);
+            subst (λ (more : List Wanted). AreWished (Step.Finish conn.0 puts plan ∷ past) (λ d. forgotten_at d new) (ws ++ more) taken)
+            (wanted-is conn.0 place past s plan.change at.seated is) (wished-finish conn.0 puts plan past (λ d. forgotten_at d new) ws taken legal
+            (wished-as past (λ d. forgotten_at d outs) (λ d. forgotten_at d new) ws taken (λ d. said.forgotten d ∙ room.forgotten d) h.wished));
       }

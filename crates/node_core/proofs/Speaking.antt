@@ -13,7 +13,7 @@ use Rattle.cable_model.specs.Possible.{opened, is_opened, is_receiving, live_cou
 use Rattle.cable_model.specs.Steps.{Step}
 use Rattle.cable_model.specs.Transcript.{queued, ping_line, conn_line, greeting}
 use Rattle.conn_seat.specs.declared.outs.Out.TheVariants as out
-use Rattle.node_seats.specs.Outboxes.{OutboxesState, Queues, CanQueue, room_at}
+use Rattle.node_seats.specs.Outboxes.{OutboxesState, Queues, CanQueue, room_at, forgotten_at}
 use Rattle.node_seats.specs.declared.turning.Wanted.{Wanted}
 use Rattle.node_seats.specs.Numbers.{Numbers, Rising, receiving_among}
 use Rattle.node_seats.specs.AreSeats.{AreSeats}
@@ -26,7 +26,7 @@ use Rattle.node_turns.specs.Wished.{own_wanted}
 use Rattle.node_core.specs.Nodes.{Stands, ping_of}
 use Rattle.node_core.specs.Opening.{OpensAs}
 use Rattle.node_turns.proofs.HoldsStaying.{held-open}
-use Rattle.node_turns.proofs.Wishing.{wished-open}
+use Rattle.node_turns.proofs.Wishing.{wished-as, wished-open}
 use Rattle.node_core.proofs.Pinging.{pinged, ping-room}
 use Rattle.node_core.proofs.Queueing.{says, lines_on}
 use Rattle.node_core.proofs.Standing.{onto}
@@ -76,6 +76,7 @@ module _ {past : List Step} {v : Numbers} {outs : OutboxesState} {k : CursorStat
       ∙ ap (λ (ls : List Line). queued c past ++ ls)
       (sym (pinged now c (λ d. is_receiving d past) (opened past) (receiving_among v) (distinct past v h.numbers)
       (receiving-all past v (worked past h.legal) h.numbers) (receiving-opened c past)))))
+      q.forgotten
 
   -- ---- an open
 
@@ -96,7 +97,8 @@ module _ {past : List Step} {v : Numbers} {outs : OutboxesState} {k : CursorStat
             (greeted c.0 d (queued d past) (greeting user));
         listens = record { lower_is = h.listens.lower_is; turns = h.listens.turns; out = h.listens.out };
         held = held-open c.0 token user past holds legal h.held;
-        wished = wished-open c.0 token user past ws taken legal h.wished;
+        wished = wished-open c.0 token user past (λ d. forgotten_at d said) ws taken legal
+            (wished-as past (λ d. forgotten_at d outs) (λ d. forgotten_at d said) ws taken q.forgotten h.wished);
       }
 
 module _ {past : List Step} {v : Numbers} {outs : OutboxesState} {k : CursorState} {holds : HoldMap} {ws : List Wanted} {taken : ℕ} where

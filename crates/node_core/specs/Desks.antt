@@ -11,7 +11,7 @@ use Rattle.poll_turn.specs.Notes.{note_in}
 use Rattle.poll_turn.specs.Turns.{CaughtState, TurnState}
 use Rattle.node_log.specs.Logs.{cut_from}
 use Rattle.node_core.specs.Arriving.{RefusesText, text_fault}
-use Rattle.node_core.specs.Forgetting.{may_forget}
+use Rattle.node_core.specs.Forgetting.{DropsWants, may_forget}
 use Rattle.node_core.specs.Jobs.{Fits, IsJob, JobState, WorkState}
 use Rattle.node_core.specs.Journals.{told}
 use Rattle.node_core.specs.Nodes.{GoesOn, HasReady, NodeState, ReadsSame, TakesNone, is_forgotten, line_on, past, taken_out}
@@ -83,7 +83,7 @@ pub record TakesOut (old : NodeState) (conn : ConnNo) (result : Option Out) (new
 abbrev pub TellsOver : NodeState → ConnNo → Bool → Type 0
 TellsOver n conn answer = answer ≡ is_over conn.0 (past n)
 
--- only that the connection is forgotten changes, and its entries are no longer in the log that is stored
+-- only that the connection is forgotten changes, its entries are no longer in the log that is stored, and no want of it is left
 pub record ForgetsOne (old : NodeState) (conn : ConnNo) (new : NodeState) : Type 0 where
   pub number : new.no ≡ old.no
   pub kept : new.kept ≡ old.kept
@@ -93,6 +93,7 @@ pub record ForgetsOne (old : NodeState) (conn : ConnNo) (new : NodeState) : Type
   pub forgotten : is_forgotten conn.0 new ≡ true
   pub others : (c : ℕ) → (c == conn.0) ≡ false → is_forgotten c new ≡ is_forgotten c old
   pub ready : new.ready ≡ old.ready
+  pub wants : DropsWants conn.0 old new
 
 -- .. where it can be forgotten, and else nothing does
 pub record Forgets (old : NodeState) (conn : ConnNo) (new : NodeState) : Type 0 where

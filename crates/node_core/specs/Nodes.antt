@@ -1,5 +1,5 @@
 -- What a node is: its journal, how many of the texts and notes of each connection were taken out, and in which order connections are served.
--- All else that it keeps is what the journal says.
+-- All else that it keeps is what the journal says. Of the wants that turns are to take, those of forgotten connections are dropped.
 use Rattle.std.specs.Prelude.{◌≡◌, ◌<◌, ◌≤◌, ◌/◌, ℕ, Bool, true, List, [], ◌∷◌, ◌++◌, Option, option_map, length, map, filter, drop}
 use Rattle.cable_base.specs.declared.numbers.ConnNo.{ConnNo}
 use Rattle.cable_base.specs.declared.numbers.NodeNo.{NodeNo}
@@ -34,6 +34,8 @@ pub record NodeState : Type 0 where
   pub outs : OutboxesState
   -- the connections of which a piece can be taken, first in, first out
   pub ready : List ConnNo
+  -- the wants that no turn took, each with its confirmation, if one comes with it. The turn that is out takes the first of them
+  pub wants : List Wanted
 
 -- the journal of a node
 abbrev pub past : NodeState → List Step
@@ -43,7 +45,7 @@ past n = past_of n.kept
 abbrev pub taken_out : ℕ → NodeState → ℕ
 taken_out c n = taken_at c n.outs
 
--- c was forgotten: what was kept of its queue is gone
+-- c was forgotten: what was kept of its queue and its wants is gone
 abbrev pub is_forgotten : ℕ → NodeState → Bool
 is_forgotten c n = forgotten_at c n.outs
 
@@ -77,8 +79,9 @@ BringsMessages (_ ∷ past) = BringsMessages past
 pub record HasTurnRoom (past : List Step) (journal : JournalState) : Type 0 where
   pub room : is_out past ≡ true → 0 < journal.spare
 
--- what a node keeps stands for this journal
-pub record Stands (past : List Step) (seats : Numbers) (outs : OutboxesState) (cursor : CursorState) (holds : HoldMap) (wants : List Wanted) (taken : ℕ) : Type 0 where
+-- what a node keeps stands for this journal, but that of a forgotten connection it keeps no want
+pub record Stands (past : List Step) (seats : Numbers) (outs : OutboxesState) (cursor : CursorState) (holds : HoldMap) (wants : List Wanted) (taken : ℕ)
+    : Type 0 where
   pub booted : is_booted past ≡ true
   pub legal : Legal past
   pub messages : BringsMessages past
@@ -86,7 +89,7 @@ pub record Stands (past : List Step) (seats : Numbers) (outs : OutboxesState) (c
   pub queues : AreQueued past outs
   pub listens : IsAt past cursor
   pub held : AreHeld past holds
-  pub wished : AreWished past wants taken
+  pub wished : AreWished past (λ c. forgotten_at c outs) wants taken
 
 -- the ready ones are exactly those of which a piece may be taken
 abbrev pub AreReady : Numbers → List ConnNo → Type 0

@@ -2,7 +2,7 @@ ghost use Rattle.std.specs.Prelude.{◌≡◌, ◌==◌, ℕ, true, false, optio
 ghost use Rattle.cable_model.specs.Journal.{cut};
 ghost use Rattle.node_log.specs.Logs.{cut_from};
 ghost use Rattle.node_core.specs.Journals.{told};
-ghost use Rattle.node_core.specs.Forgetting.{is_drained, may_forget};
+ghost use Rattle.node_core.specs.Forgetting.{DropsWants, is_drained, may_forget};
 ghost use Rattle.node_core.specs.Nodes.{TakesNone, is_forgotten};
 
 use crate::nodes::Node;
@@ -25,9 +25,10 @@ impl Node {
     }
 
     /// Forgets a connection that is over and of which all was taken out: the memory of its queue is given back, and only how many were
-    /// taken out stays. Its entries are taken out of the log that is stored, which tells its journal without them then. Its number stays
-    /// used: the node's journal is as before, so `open_conn` goes on answering `Used` and `is_over` true. It takes no memory, and is no
-    /// entry.
+    /// taken out stays. Its wants that turns are to take, or that the turn out takes, are dropped with their confirmations, so that it
+    /// leaves none behind even where each turn is missed. Its entries are taken out of the log that is stored, which tells its journal
+    /// without them then. Its number stays used: the node's journal is as before, so `open_conn` goes on answering `Used` and `is_over`
+    /// true. It takes no memory, and is no entry.
     pub fn forget(&mut self, conn: ConnNo)
         requires { may_forget conn.0 self.old ≡ true }
         ensures no { self.new.no ≡ self.old.no }
@@ -38,8 +39,10 @@ impl Node {
         ensures forgotten { is_forgotten conn.0 self.new ≡ true }
         ensures others { (c : ℕ) → (c == conn.0) ≡ false → is_forgotten c self.new ≡ is_forgotten c self.old }
         ensures ready { self.new.ready ≡ self.old.ready }
+        ensures wants { DropsWants conn.0 self.old self.new }
     {
         self.seats.forget(conn);
+        self.wants.drop_those_of(conn);
         self.journal.cut(conn);
     }
 }

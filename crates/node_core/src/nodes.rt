@@ -20,8 +20,8 @@ use std::marker::Model;
 use subscriber_map::SubscriberMap;
 
 /// One node. Its type keeps that its journal is legal, that its connections, what is queued on them, their holds, the wants that turns are
-/// to take and where its listener stands are those of its journal, and that its ready connections are exactly those of which a piece can
-/// be taken.
+/// to take and where its listener stands are those of its journal, but that of a forgotten connection it has no want, and that its ready
+/// connections are exactly those of which a piece can be taken.
 #[derive(Debug, Drop)]
 pub struct Node {
     pub(crate) alloc: Global,
@@ -40,7 +40,14 @@ impl Model for Node {
 
     ghost Value = { NodeState };
 
-    ghost view = { λ n. record { no = n.no; kept = n.journal.kept; stored = n.journal.stored; outs = n.seats.outs; ready = n.ready.waiting } };
+    ghost view = { λ n. record {
+      no = n.no;
+      kept = n.journal.kept;
+      stored = n.journal.stored;
+      outs = n.seats.outs;
+      ready = n.ready.waiting;
+      wants = n.wants.wanted;
+    } };
 
     ghost invariant = { λ n. record {
       stands : Stands (past_of n.journal.kept) n.seats.entries n.seats.outs n.cursor n.holders n.wants.wanted n.wants.taken;

@@ -1,7 +1,7 @@
 ghost use Rattle.std.specs.Prelude.{◌≡◌, ◌<◌};
 
 use crate::node_core_acts::{Act, first_fault};
-use cable_base::{Millis, Name, NodeNo, Row, RowId, Steps};
+use cable_base::{ConnNo, Millis, Name, NodeNo, Row, RowId, Steps};
 use cable_fixtures::{ANN, CLUB, CONFIRMED, SUBSCRIBE, payload};
 use channel_book::Book;
 use node_core::Node;
@@ -14,9 +14,13 @@ use std::test::Fail;
 
 const SAID: &str = r#"{"identifier":"{\"channel\":\"Club\"}","message":1}"#;
 
+const WELCOME: &str = r#"{"type":"welcome"}"#;
+
+const BEN: ConnNo = ConnNo(5);
+
 const SUBSCRIBES: [Act; 4] = [
     Act::Opens(ANN, "t1"),
-    Act::Says(ANN, r#"{"type":"welcome"}"#),
+    Act::Says(ANN, WELCOME),
     Act::Hears(ANN, SUBSCRIBE),
     Act::Works(ANN),
 ];
@@ -40,6 +44,28 @@ const LEAVES: [Act; 5] = [
     Act::Forgets(ANN, true),
     Act::Resets(true),
     Act::Logs(RowId(9), 1),
+];
+
+const ANOTHER_SUBSCRIBES: [Act; 4] = [
+    Act::Opens(BEN, "t1"),
+    Act::Says(BEN, WELCOME),
+    Act::Hears(BEN, SUBSCRIBE),
+    Act::Works(BEN),
+];
+
+const ONE_IS_FORGOTTEN: [Act; 4] = [
+    Act::Goes(ANN, true),
+    Act::Works(ANN),
+    Act::IsOver(ANN, true),
+    Act::Forgets(ANN, true),
+];
+
+const THE_OTHER_IS_CONFIRMED: [Act; 5] = [
+    Act::Works(BEN),
+    Act::IsIdle,
+    Act::Says(BEN, CONFIRMED),
+    Act::IsSilent(BEN),
+    Act::IsSilent(ANN),
 ];
 
 /// The turn found one row of the club.
@@ -135,6 +161,31 @@ fn turns<L: Ledger>(
         && first_fault(node, stores, alloc, book, &LEAVES).is_none()
 }
 
+/// One of two connections is forgotten while a turn is out, which is missed. The next turn brings nothing for it, and the other is confirmed.
+fn forgets_one<L: Ledger>(
+    node: &mut Node,
+    stores: bool,
+    alloc: Global,
+    book: &Book,
+    steps: &mut Steps<L>,
+) -> bool {
+    if first_fault(node, stores, alloc, book, &SUBSCRIBES).is_some()
+        || first_fault(node, stores, alloc, book, &ANOTHER_SUBSCRIBES).is_some()
+    {
+        return false;
+    }
+    let Ok(Some(turn)) = node.ask() else {
+        return false;
+    };
+    let forgotten = first_fault(node, stores, alloc, book, &ONE_IS_FORGOTTEN).is_none();
+    delivers(node, steps, turn.missed())
+        && forgotten
+        && first_fault(node, stores, alloc, book, &WAITS).is_none()
+        && finds(node, steps, alloc, 8, 0)
+        && first_fault(node, stores, alloc, book, &THE_OTHER_IS_CONFIRMED).is_none()
+        && finds(node, steps, alloc, 9, 2)
+}
+
 fn run<L: Ledger>(rt: &impl Abort, alloc: Global, blank: Blank) -> Result<(), Fail>
     requires name { blank.name ≡ L.name }
     requires parts { blank.parts ≡ L.parts }
@@ -152,4 +203,23 @@ fn run<L: Ledger>(rt: &impl Abort, alloc: Global, blank: Blank) -> Result<(), Fa
 #[test]
 fn turns_bring_rows(rt: HostRuntime) -> Result<(), Fail> {
     run::<Brand>(&rt, rt.alloc(), Blank::new(1))
+}
+
+fn run_forgetting<L: Ledger>(rt: &impl Abort, alloc: Global, blank: Blank) -> Result<(), Fail>
+    requires name { blank.name ≡ L.name }
+    requires parts { blank.parts ≡ L.parts }
+    requires some { 0 < blank.parts }
+{
+    let mut steps = Steps::<L>::begin(blank);
+    let book = Book::read(alloc, CLUB)?;
+    let mut node = Node::boot(alloc, NodeNo(1), RowId(5))?;
+    assert!(rt; forgets_one(&mut node, true, alloc, &book, &mut steps));
+    let mut unlogged = Node::boot_unlogged(alloc, NodeNo(1), RowId(5));
+    assert!(rt; forgets_one(&mut unlogged, false, alloc, &book, &mut steps));
+    Ok(())
+}
+
+#[test]
+fn turns_bring_nothing_for_forgotten_ones(rt: HostRuntime) -> Result<(), Fail> {
+    run_forgetting::<Brand>(&rt, rt.alloc(), Blank::new(1))
 }

@@ -265,6 +265,30 @@ fn forgets_one_of_two(rt: HostRuntime) -> Result<(), Fail> {
     Ok(())
 }
 
+/// What is queued on a connection that was forgotten is taken out as on any other, and it stays forgotten.
+#[test]
+fn stays_forgotten(rt: HostRuntime) -> Result<(), Fail> {
+    let acts = [
+        Act::Opens(ANN, "hello"),
+        Act::Refuses(BEN, "no"),
+        Act::Hears(BEN, "no"),
+        Act::Forgets(BEN, true),
+        Act::Forgets(BEN, true),
+        Act::Says(ANN, BEN, "late"),
+        Act::IsForgotten(BEN, true),
+        Act::Forgets(BEN, false),
+        Act::Hears(BEN, "late"),
+        Act::IsSilent(BEN),
+        Act::Forgets(BEN, true),
+        Act::IsForgotten(BEN, true),
+        Act::IsOver(BEN, true),
+        Act::Hears(ANN, "hello"),
+        Act::Hears(ANN, "late"),
+    ];
+    assert_eq!(rt; first_fault(rt.alloc(), acts.as_slice())?, None);
+    Ok(())
+}
+
 /// A connection is listed by its number from its opening to its end, whatever was opened and ended meanwhile.
 #[test]
 fn lists_the_live_ones(rt: HostRuntime) -> Result<(), Fail> {

@@ -1,11 +1,13 @@
 use crate::seat_fixtures::{first_plan, opens_ann, subscribes, takes};
-use cable_base::{OutOfMemory, SubNo, WantNo};
+use cable_base::{ConnNo, OutOfMemory, SubNo, WantNo};
 use cable_fixtures::ANN;
 use cable_model::{Change, Piece};
 use node_seats::{Delivery, Seats, Wanted};
 use node_turns::{Wants, add_confirms};
 use std::alloc::Global;
 use std::test::Fail;
+
+const BEN: ConnNo = ConnNo(8);
 
 fn wanted(want: u64, confirms: bool) -> Wanted {
     Wanted {
@@ -54,6 +56,44 @@ fn takes_those_that_the_ask_found(rt: HostRuntime) {
     let mut wants = Wants::empty(rt.alloc());
     assert!(rt; takes_what_the_ask_found(&mut wants));
     assert!(rt; drops_what_was_taken(&mut wants));
+}
+
+/// Ben's want, with which his confirmation comes.
+const BENS: Wanted = Wanted {
+    conn: BEN,
+    sub: SubNo(1),
+    want: WantNo(1),
+    confirms: true,
+};
+
+/// Puts two wants of ann's with one of ben's between them, which a turn takes, and another of ann's behind it.
+fn puts_around_bens(wants: &mut Wants) -> bool {
+    if wants.reserve(3).is_err() {
+        return false;
+    }
+    wants.put(wanted(0, false));
+    wants.put(BENS);
+    wants.put(wanted(1, true));
+    wants.take_all();
+    puts(wants, 2)
+}
+
+/// Of ann's wants none is left, neither of those that the turn takes nor of those behind. The turn takes ben's as before, and once it is
+/// missed the next one takes it again, and nothing else.
+fn drops_those_of_ann(wants: &mut Wants) -> bool {
+    wants.drop_those_of(ANN);
+    let taken = has_taken(wants, BENS);
+    wants.give_back();
+    let given_back = wants.taken().is_empty();
+    wants.take_all();
+    taken && given_back && has_taken(wants, BENS)
+}
+
+#[test]
+fn drops_those_of_one(rt: HostRuntime) {
+    let mut wants = Wants::empty(rt.alloc());
+    assert!(rt; puts_around_bens(&mut wants));
+    assert!(rt; drops_those_of_ann(&mut wants));
 }
 
 /// Puts the wants that a change of ann's connection makes.

@@ -1,10 +1,9 @@
 -- The counts and lists of what a node keeps are its journal's.
-use Rattle.std.proofs.Common.{◌≡◌, ℕ, ◌+◌, Bool, true, false, cond, not, ◌&&◌, List, [], ◌∷◌, length, filter, map, Option, Some, None, refl, sym, ap, ◌∙◌, arith}
+use Rattle.std.proofs.Common.{◌≡◌, ℕ, Bool, true, false, cond, not, ◌&&◌, List, [], ◌∷◌, length, filter, map, Option, Some, None, refl, sym, ap, ◌∙◌}
 use Rattle.std.specs.Prelude.{is_some}
 use Rattle.std.specs.List.{AllByRecursion}
 use Rattle.std.specs.List.Sorted.{IsStrictlySortedBy}
-use Rattle.std.specs.Map.{keys_of, values_of}
-use Rattle.std.proofs.lemmas.List.Sums.{sum_by-cons}
+use Rattle.std.specs.Map.{keys_of}
 use Rattle.cable_base.specs.declared.numbers.ConnNo.{ConnNo}
 use Rattle.cable_model.specs.Pieces.{seat}
 use Rattle.cable_model.specs.Possible.{is_opened, is_over, is_live, is_receiving, receiving, live_count}
@@ -12,8 +11,10 @@ use Rattle.cable_model.specs.Steps.{Step}
 use Rattle.conn_seat.specs.Seats.{Seated}
 use Rattle.conn_seat.specs.Seated.{SeatOf}
 use Rattle.conn_seat.proofs.Answering.{answers}
-use Rattle.node_seats.specs.Numbers.{Numbers, Opened, opened_at, is_over_in, is_over_at, live_among, receiving_among, is_receiving_in, weight}
+use Rattle.node_seats.specs.Numbers.{Numbers, Opened, opened_at, is_over_in, is_over_at, live_among, receiving_among, is_receiving_in, seat_in}
 use Rattle.node_seats.specs.AreSeats.{IsOpened, AreSeats, AreWorked}
+use Rattle.node_seats.proofs.Living.{count-by}
+use Rattle.node_seats.proofs.Lookups.{each-entry}
 use Rattle.node_seats.proofs.Onward.{entries, used-is}
 
 -- ---- those that are live
@@ -22,25 +23,14 @@ pub live-is : (c : ℕ) (past : List Step) (s : Seated) → SeatOf c past s → 
 live-is c past s h shut =
     ap (λ (o : Option (List ℕ)). is_some o && not (seat c past).conn.over) h.user ∙ ap not (sym h.shows.conn.over ∙ shut)
 
-weigh : (c : ℕ) (past : List Step) (o : Opened) → IsOpened c past o → weight o ≡ cond (is_live c past) 1 0
-weigh c past (Opened.Live s) h = let l = live-is c past s h.0 h.1 in rw l refl
-weigh c past Opened.Over h = let l = h.live in rw l refl
-
-count-live : (past : List Step) (v : Numbers) → AllByRecursion (λ (e : ℕ × Opened). IsOpened e.0 past e.1) v → live_among v ≡ length (filter (λ c. is_live c past) (keys_of v))
-count-live past [] h = refl
-count-live past (e ∷ es) h =
-    let more : live_among (e ∷ es) ≡ weight e.1 + live_among es = sum_by-cons weight e.1 (values_of es) in
-    by-test (is_live e.0 past) (more ∙ ap (λ n. n + live_among es) (weigh e.0 past e.1 h.0) ∙ ap (λ n. cond (is_live e.0 past) 1 0 + n) (count-live past es h.1))
-  where
-    rest : List ℕ
-    rest = filter (λ c. is_live c past) (keys_of es)
-
-    by-test : (b : Bool) → live_among (e ∷ es) ≡ cond b 1 0 + length rest → live_among (e ∷ es) ≡ length (cond b (e.0 ∷ rest) rest)
-    by-test true sum = sum ∙ omega arith
-    by-test false sum = sum ∙ omega arith
+live-kept : (c : ℕ) (past : List Step) (o : Opened) → IsOpened c past o → is_some (seat_in (Some o)) ≡ is_live c past
+live-kept c past (Opened.Live s) h = sym (live-is c past s h.0 h.1)
+live-kept c past Opened.Over h = sym h.live
 
 pub live-count : (past : List Step) (v : Numbers) → AreSeats past v → live_among v ≡ live_count past
-live-count past v a = count-live past v (entries past v a) ∙ ap (λ ks. length (filter (λ c. is_live c past) ks)) a.numbers
+live-count past v a =
+    count-by (λ c. is_live c past) v (each-entry (λ c o. is_some (seat_in (Some o)) ≡ is_live c past) v a.rising (λ c o at. live-kept c past o (a.each c o at)))
+    ∙ ap (λ ks. length (filter (λ c. is_live c past) ks)) a.numbers
 
 -- ---- those that are receiving
 

@@ -5,18 +5,14 @@ use Rattle.std.specs.Ordering.{nat_cmp, match_ordering}
 use Rattle.std.specs.declared.cmp.Ordering.{Ordering}
 use Rattle.std.specs.declared.cmp.Ordering.TheVariants as order
 use Rattle.std.specs.BTreeMap.{is_at, insert_entry}
-use Rattle.std.specs.Map.{lookup, set_value, keys_of}
+use Rattle.std.specs.Map.{lookup, set_value}
 use Rattle.std.proofs.lemmas.Map.Made.{lookup-map_values}
 use Rattle.std.proofs.lemmas.Map.Steps.{set_value_same}
-use Rattle.node_seats.proofs.Lookups.{at-each, found-there, found-elsewhere}
+use Rattle.node_seats.proofs.Lookups.{at-set, found-there, found-elsewhere}
 
 module _ {S B : Type 0} (f : S → B) where
   abbrev pub mapped : List (ℕ × S) → List (ℕ × B)
   mapped es = map (λ (e : ℕ × S). (e.0, f e.1)) es
-
-  pub keys-mapped : (es : List (ℕ × S)) → keys_of (mapped es) ≡ keys_of es
-  keys-mapped [] = refl
-  keys-mapped (e ∷ es) = ap (λ ks. e.0 ∷ ks) (keys-mapped es)
 
   pub set-mapped : (test : ℕ → Bool) (es : List (ℕ × S)) (x : S) → mapped (set_value test es x) ≡ set_value test (mapped es) (f x)
   set-mapped test [] x = refl
@@ -58,7 +54,7 @@ module _ {B : Type 0} (c : ℕ) (kept became : B) (v new : List (ℕ × B)) (w :
   others-now d apart = ap (lookup (is_at (nat_cmp d))) w.now ∙ found-elsewhere c d became v apart
 
   pub at-written : (d : ℕ) → lookup (is_at (nat_cmp d)) new ≡ cond (is_at (nat_cmp c) d) (Some became) (lookup (is_at (nat_cmp d)) v)
-  at-written d = at-each c d became v new found-now (others-now d)
+  at-written d = ap (lookup (is_at (nat_cmp d))) w.now ∙ at-set c d became kept v w.found
 
   -- the same thing, so that nothing changes
   pub same-now : became ≡ kept → new ≡ v

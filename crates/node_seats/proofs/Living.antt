@@ -49,19 +49,22 @@ found v live is = each-entry (λ c o. opened_at c v ≡ Some o) v is.rising (λ 
 
 -- ---- how many
 
-count-of : (v es : Numbers) → AllByRecursion (λ (e : ℕ × Opened). opened_at e.0 v ≡ Some e.1) es → length (live_in v es) ≡ live_among es
-count-of v [] all = refl
-count-of v ((c, Opened.Live s) ∷ es) all =
-    let at = ap (λ o. is_some (seat_in o)) all.0 in
+-- of these entries, where p says of each number whether it is live
+pub count-by : (p : ℕ → Bool) (es : Numbers) → AllByRecursion (λ (e : ℕ × Opened). is_some (seat_in (Some e.1)) ≡ p e.0) es → live_among es ≡ length (filter p (keys_of es))
+count-by p [] all = refl
+count-by p ((c, Opened.Live s) ∷ es) all =
+    let at = sym all.0 in
     let more : live_among ((c, Opened.Live s) ∷ es) ≡ 1 + live_among es = sum_by-cons weight (Opened.Live s) (values_of es) in
-    rw (at, more) (omega (arith, count-of v es all.1))
-count-of v ((c, Opened.Over) ∷ es) all =
-    let at = ap (λ o. is_some (seat_in o)) all.0 in
+    rw (at, more) (omega (arith, count-by p es all.1))
+count-by p ((c, Opened.Over) ∷ es) all =
+    let at = sym all.0 in
     let more : live_among ((c, Opened.Over) ∷ es) ≡ 0 + live_among es = sum_by-cons weight Opened.Over (values_of es) in
-    rw (at, more) (omega (arith, count-of v es all.1))
+    rw (at, more) (omega (arith, count-by p es all.1))
 
 pub live-count : (v : Numbers) (live : BTreeSet ℕ) → IsOrdered nat_cmp live → IsTidy v live → length live.keys ≡ live_among v
-live-count v live ordered is = ap length (live-keys v live ordered is) ∙ count-of v v (found v live is)
+live-count v live ordered is =
+    ap length (live-keys v live ordered is)
+    ∙ sym (count-by (λ c. is_some (seat_at c v)) v (each-entry (λ c o. is_some (seat_in (Some o)) ≡ is_some (seat_at c v)) v is.rising (λ c o at. ap (λ x. is_some (seat_in x)) (sym at))))
 
 -- ---- those that are not closing
 

@@ -1,6 +1,6 @@
 -- What is found under a number, behind what calls make of the others.
-use Rattle.std.proofs.Common.{◌≡◌, ℕ, ◌==◌, Bool, true, false, cond, ◌||◌, List, [], ◌∷◌, Some, None, refl, sym, ap, subst, ◌∙◌, arith}
-use Rattle.std.specs.Prelude.{ltb}
+use Rattle.std.proofs.Common.{◌≡◌, ℕ, ◌==◌, Bool, true, false, cond, ◌||◌, List, [], ◌∷◌, Option, Some, None, refl, sym, ap, ◌∙◌, arith}
+use Rattle.std.specs.Prelude.{is_some, ltb}
 use Rattle.std.specs.List.{AllByRecursion, list_any}
 use Rattle.std.specs.List.Sorted.{IsStrictlySortedBy}
 use Rattle.std.specs.Ordering.{nat_cmp, is_eq, match_ordering}
@@ -9,6 +9,8 @@ use Rattle.std.specs.declared.cmp.Ordering.TheVariants as order
 use Rattle.std.specs.BTreeMap.{is_at, insert_entry}
 use Rattle.std.specs.Map.{lookup, set_value, keys_of}
 use Rattle.std.proofs.lemmas.Bool.Decides.{nat_tests}
+use Rattle.std.proofs.lemmas.Cmp.{eq_by_cmp_equiv, nat_cmp_total}
+use Rattle.std.proofs.lemmas.Map.{lookup-set_value}
 use Rattle.cable_model.specs.Possible.{inserted}
 use Rattle.node_seats.specs.Numbers.{Numbers, Opened, opened_at, with_new}
 
@@ -20,14 +22,15 @@ at-is c d = grind (arith, nat_tests)
 pub at-self : (c : ℕ) → is_at (nat_cmp c) c ≡ true
 at-self c = grind (arith, nat_tests)
 
-at-one : (c d x : ℕ) → (c ≡ d → ⊥) → is_at (nat_cmp c) x ≡ true → is_at (nat_cmp d) x ≡ false
-at-one c d x apart at =
-    let e : (x == c) ≡ true = sym (at-is c x) ∙ at in
-    at-is d x ∙ other (x == d) refl e
+at-turned : (c d : ℕ) → is_at (nat_cmp d) c ≡ is_at (nat_cmp c) d
+at-turned c d = grind (arith, nat_tests)
+
+at-apart : (c d : ℕ) → (c ≡ d → ⊥) → is_at (nat_cmp c) d ≡ false
+at-apart c d apart = by-test (is_at (nat_cmp c) d) refl
   where
-    other : (b : Bool) → (x == d) ≡ b → (x == c) ≡ true → b ≡ false
-    other true f e = absurd (apart (grind (arith, nat_tests)))
-    other false f e = refl
+    by-test : (b : Bool) → is_at (nat_cmp c) d ≡ b → b ≡ false
+    by-test true at = absurd (apart (grind (arith, nat_tests, at)))
+    by-test false at = refl
 
 -- a number below all these isn't among them
 pub below-all : (c : ℕ) (ks : List ℕ) → AllByRecursion (λ k. nat_cmp c k ≡ order.Less) ks → list_any (is_at (nat_cmp c)) ks ≡ false
@@ -36,77 +39,63 @@ below-all c (k ∷ ks) below = let l = below.0 in rw l (below-all c ks below.1)
 
 -- ---- a number that was opened
 
-module _ {B : Type 0} (mine other : ℕ → Bool) (one : (x : ℕ) → mine x ≡ true → other x ≡ false) where
-  set-elsewhere : (o : B) (v : List (ℕ × B)) → lookup other (set_value mine v o) ≡ lookup other v
-  set-elsewhere o [] = refl
-  set-elsewhere o (e ∷ es) = by-test (mine e.0) refl (set-elsewhere o es)
-    where
-      by-test : (b : Bool) → mine e.0 ≡ b → lookup other (set_value mine es o) ≡ lookup other es → lookup other (cond b ((e.0, o) ∷ es) (e ∷ set_value mine es o)) ≡ lookup other (e ∷ es)
-      by-test true is ih = let f = one e.0 is in rw f refl
-      by-test false is ih = ap (λ l. cond (other e.0) (Some e.1) l) ih
-
-set-there : {B : Type 0} (mine : ℕ → Bool) (o p : B) (v : List (ℕ × B)) → lookup mine v ≡ Some p → lookup mine (set_value mine v o) ≡ Some o
-set-there mine o p [] at = absurd cc
-set-there mine o p (e ∷ es) at = by-test (mine e.0) refl at (set-there mine o p es)
+-- another thing is kept of c
+pub at-set : {B : Type 0} (c d : ℕ) (o p : B) (v : List (ℕ × B)) → lookup (is_at (nat_cmp c)) v ≡ Some p
+    → lookup (is_at (nat_cmp d)) (set_value (is_at (nat_cmp c)) v o) ≡ cond (is_at (nat_cmp c) d) (Some o) (lookup (is_at (nat_cmp d)) v)
+at-set c d o p v at = lookup-set_value (eq_by_cmp_equiv nat_cmp_total) (is_at (nat_cmp c)) one d o v (ap is_some at)
   where
-    by-test : (b : Bool) → mine e.0 ≡ b → cond b (Some e.1) (lookup mine es) ≡ Some p → (lookup mine es ≡ Some p → lookup mine (set_value mine es o) ≡ Some o)
-        → lookup mine (cond b ((e.0, o) ∷ es) (e ∷ set_value mine es o)) ≡ Some o
-    by-test true is found ih = rw is refl
-    by-test false is found ih = rw is (ih found)
-
-pub found-elsewhere : {B : Type 0} (c d : ℕ) (o : B) (v : List (ℕ × B)) → (c ≡ d → ⊥)
-    → lookup (is_at (nat_cmp d)) (set_value (is_at (nat_cmp c)) v o) ≡ lookup (is_at (nat_cmp d)) v
-found-elsewhere c d o v apart = set-elsewhere (is_at (nat_cmp c)) (is_at (nat_cmp d)) (λ x. at-one c d x apart) o v
+    one : (x y : ℕ) → is_at (nat_cmp c) x ≡ true → is_at (nat_cmp c) y ≡ is_at (nat_cmp x) y
+    one x y e = let same : c ≡ x = grind (arith, nat_tests, e) in ap (λ (n : ℕ). is_at (nat_cmp n) y) same
 
 pub found-there : {B : Type 0} (c : ℕ) (o p : B) (v : List (ℕ × B)) → lookup (is_at (nat_cmp c)) v ≡ Some p
     → lookup (is_at (nat_cmp c)) (set_value (is_at (nat_cmp c)) v o) ≡ Some o
-found-there c o p v at = set-there (is_at (nat_cmp c)) o p v at
+found-there c o p v at = at-set c c o p v at ∙ ap (λ b. cond b (Some o) (lookup (is_at (nat_cmp c)) v)) (at-self c)
+
+pub found-elsewhere : {B : Type 0} (c d : ℕ) (o : B) (v : List (ℕ × B)) → (c ≡ d → ⊥)
+    → lookup (is_at (nat_cmp d)) (set_value (is_at (nat_cmp c)) v o) ≡ lookup (is_at (nat_cmp d)) v
+found-elsewhere c d o [] apart = refl
+found-elsewhere c d o (e ∷ es) apart = by-test (is_at (nat_cmp c) e.0) refl (found-elsewhere c d o es apart)
+  where
+    by-test : (b : Bool) → is_at (nat_cmp c) e.0 ≡ b → lookup (is_at (nat_cmp d)) (set_value (is_at (nat_cmp c)) es o) ≡ lookup (is_at (nat_cmp d)) es
+        → lookup (is_at (nat_cmp d)) (cond b ((e.0, o) ∷ es) (e ∷ set_value (is_at (nat_cmp c)) es o)) ≡ lookup (is_at (nat_cmp d)) (e ∷ es)
+    by-test true at ih = let same : c ≡ e.0 = grind (arith, nat_tests, at) in let f = at-apart d e.0 (λ g. apart (same ∙ sym g)) in rw f refl
+    by-test false at ih = ap (cond (is_at (nat_cmp d) e.0) (Some e.1)) ih
 
 -- ---- a number more
 
-module _ {B : Type 0} (c : ℕ) (cmp : ℕ → ℕ → Ordering) (other : ℕ → Bool) where
-  insert-elsewhere : (o : B) → other c ≡ false → ((x : ℕ) → is_eq (cmp c x) ≡ true → other x ≡ false) → (v : List (ℕ × B)) → lookup other (insert_entry cmp v c o) ≡ lookup other v
-  insert-elsewhere o not_c one [] = rw not_c refl
-  insert-elsewhere o not_c one (e ∷ es) = by-order (cmp c e.0) refl (insert-elsewhere o not_c one es)
-    where
-      by-order : (r : Ordering) → cmp c e.0 ≡ r → lookup other (insert_entry cmp es c o) ≡ lookup other es
-          → lookup other (match_ordering r ((c, o) ∷ e ∷ es) ((e.0, o) ∷ es) (e ∷ insert_entry cmp es c o)) ≡ lookup other (e ∷ es)
-      by-order order.Less is ih = rw not_c refl
-      by-order order.Equal is ih = let f = one e.0 (ap is_eq is) in rw f refl
-      by-order order.Greater is ih = ap (λ l. cond (other e.0) (Some e.1) l) ih
+pub at-new : {B : Type 0} (c d : ℕ) (o : B) (v : List (ℕ × B))
+    → lookup (is_at (nat_cmp d)) (insert_entry nat_cmp v c o) ≡ cond (is_at (nat_cmp c) d) (Some o) (lookup (is_at (nat_cmp d)) v)
+at-new {B} c d o [] = ap (λ b. cond b (Some o) None) (at-turned c d)
+at-new {B} c d o (e ∷ es) = by-order (nat_cmp c e.0) refl (at-new c d o es)
+  where
+    rest : Option B
+    rest = lookup (is_at (nat_cmp d)) es
 
-  insert-there : (o : B) → other c ≡ true → ((x : ℕ) → other x ≡ is_eq (cmp c x)) → (v : List (ℕ × B)) → lookup other (insert_entry cmp v c o) ≡ Some o
-  insert-there o is_c same [] = rw is_c refl
-  insert-there o is_c same (e ∷ es) = by-order (cmp c e.0) refl (insert-there o is_c same es)
-    where
-      by-order : (r : Ordering) → cmp c e.0 ≡ r → lookup other (insert_entry cmp es c o) ≡ Some o
-          → lookup other (match_ordering r ((c, o) ∷ e ∷ es) ((e.0, o) ∷ es) (e ∷ insert_entry cmp es c o)) ≡ Some o
-      by-order order.Less is ih = rw is_c refl
-      by-order order.Equal is ih = let f : other e.0 ≡ true = same e.0 ∙ ap is_eq is in rw f refl
-      by-order order.Greater is ih = let f : other e.0 ≡ false = same e.0 ∙ ap is_eq is in rw f ih
+    here : (b : Bool) → cond b (Some o) rest ≡ cond b (Some o) (cond b (Some e.1) rest)
+    here true = refl
+    here false = refl
+
+    later : (b : Bool) → is_at (nat_cmp c) d ≡ b → is_at (nat_cmp c) e.0 ≡ false
+        → cond (is_at (nat_cmp d) e.0) (Some e.1) (cond b (Some o) rest) ≡ cond b (Some o) (cond (is_at (nat_cmp d) e.0) (Some e.1) rest)
+    later true at apart = let same : c ≡ d = grind (arith, nat_tests, at) in let f = ap (λ (x : ℕ). is_at (nat_cmp x) e.0) (sym same) ∙ apart in rw f refl
+    later false at apart = refl
+
+    by-order : (r : Ordering) → nat_cmp c e.0 ≡ r → lookup (is_at (nat_cmp d)) (insert_entry nat_cmp es c o) ≡ cond (is_at (nat_cmp c) d) (Some o) rest
+        → lookup (is_at (nat_cmp d)) (match_ordering r ((c, o) ∷ e ∷ es) ((e.0, o) ∷ es) (e ∷ insert_entry nat_cmp es c o))
+        ≡ cond (is_at (nat_cmp c) d) (Some o) (cond (is_at (nat_cmp d) e.0) (Some e.1) rest)
+    by-order order.Less is ih = ap (λ b. cond b (Some o) (cond (is_at (nat_cmp d) e.0) (Some e.1) rest)) (at-turned c d)
+    by-order order.Equal is ih =
+        let same : c ≡ e.0 = grind (arith, nat_tests, is) in
+        let t = ap (is_at (nat_cmp d)) (sym same) ∙ at-turned c d in
+        rw t (here (is_at (nat_cmp c) d))
+    by-order order.Greater is ih = ap (cond (is_at (nat_cmp d) e.0) (Some e.1)) ih ∙ later (is_at (nat_cmp c) d) refl (ap is_eq is)
 
 pub new-there : {B : Type 0} (c : ℕ) (o : B) (v : List (ℕ × B)) → lookup (is_at (nat_cmp c)) (insert_entry nat_cmp v c o) ≡ Some o
-new-there c o v = insert-there c nat_cmp (is_at (nat_cmp c)) o (at-self c) (λ x. refl) v
+new-there c o v = at-new c c o v ∙ ap (λ b. cond b (Some o) (lookup (is_at (nat_cmp c)) v)) (at-self c)
 
 pub new-elsewhere : {B : Type 0} (c d : ℕ) (o : B) (v : List (ℕ × B)) → (c ≡ d → ⊥)
     → lookup (is_at (nat_cmp d)) (insert_entry nat_cmp v c o) ≡ lookup (is_at (nat_cmp d)) v
-new-elsewhere c d o v apart = insert-elsewhere c nat_cmp (is_at (nat_cmp d)) o (at-one c d c apart (at-self c)) (λ x. at-one c d x apart) v
-
--- ---- of all numbers
-
--- what is found is what is kept of c, and else what was found
-module _ {B : Type 0} (c d : ℕ) (o : B) (v now : List (ℕ × B)) (there : lookup (is_at (nat_cmp c)) now ≡ Some o)
-    (elsewhere : (c ≡ d → ⊥) → lookup (is_at (nat_cmp d)) now ≡ lookup (is_at (nat_cmp d)) v) where
-  pub at-each : lookup (is_at (nat_cmp d)) now ≡ cond (is_at (nat_cmp c) d) (Some o) (lookup (is_at (nat_cmp d)) v)
-  at-each = by-test (is_at (nat_cmp c) d) refl
-    where
-      by-test : (b : Bool) → is_at (nat_cmp c) d ≡ b → lookup (is_at (nat_cmp d)) now ≡ cond b (Some o) (lookup (is_at (nat_cmp d)) v)
-      by-test true at = let same : c ≡ d = grind (arith, nat_tests, at) in subst (λ (x : ℕ). lookup (is_at (nat_cmp x)) now ≡ Some o) same there
-      by-test false at = elsewhere (λ same. absurd (let t = at-self c in let no_way : true ≡ false = sym t ∙ ap (is_at (nat_cmp c)) same ∙ at in cc))
-
-pub at-new : {B : Type 0} (c d : ℕ) (o : B) (v : List (ℕ × B))
-    → lookup (is_at (nat_cmp d)) (insert_entry nat_cmp v c o) ≡ cond (is_at (nat_cmp c) d) (Some o) (lookup (is_at (nat_cmp d)) v)
-at-new c d o v = at-each c d o v (insert_entry nat_cmp v c o) (new-there c o v) (new-elsewhere c d o v)
+new-elsewhere c d o v apart = at-new c d o v ∙ ap (λ b. cond b (Some o) (lookup (is_at (nat_cmp d)) v)) (at-apart c d apart)
 
 -- ---- what is found under each
 

@@ -11,9 +11,8 @@ use Rattle.std.specs.BTreeSet.{BTreeSet, contains}
 use Rattle.std.specs.Map.{lookup, set_value, keys_of}
 use Rattle.std.proofs.lemmas.Bool.Decides.{nat_tests}
 use Rattle.cable_base.specs.declared.faults.OutOfMemory.{OutOfMemory}
-use Rattle.cable_model.specs.declared.plans.Change.{Change}
 use Rattle.conn_seat.specs.Seats.{Seated}
-use Rattle.node_seats.specs.Numbers.{Numbers, Opened, Moves, opened_at, seat_at, seat_in, weight, with_new, Rising, Finished, CanRestart, CanRestartAll}
+use Rattle.node_seats.specs.Numbers.{Numbers, Opened, Moves, opened_at, seat_at, seat_in, weight, with_new, Rising, CanRestart, CanRestartAll}
 use Rattle.node_seats.specs.Inside.{IsTidy}
 use Rattle.node_seats.proofs.Faces.{Written, at-written}
 use Rattle.node_seats.proofs.Lookups.{at-new}
@@ -27,15 +26,12 @@ rises c kept became v new w rising = subst (IsStrictlySortedBy nat_cmp) (sym (ap
 
 -- ---- room
 
-some-is : (kept other : Opened) → Some kept ≡ Some other → kept ≡ other
-some-is kept other e = cc e
-
 room-at : (test : ℕ → Bool) (v : Numbers) (kept : Opened) → CanRestartAll v → lookup test v ≡ Some kept → CanRestart kept
 room-at test [] kept can at = absurd cc
 room-at test (e ∷ es) kept can at = by-test (test e.0) at (room-at test es kept can.1)
   where
     by-test : (b : Bool) → cond b (Some e.1) (lookup test es) ≡ Some kept → (lookup test es ≡ Some kept → CanRestart kept) → CanRestart kept
-    by-test true found rest = subst CanRestart (some-is e.1 kept found) can.0
+    by-test true found rest = let same : e.1 ≡ kept = cc found in subst CanRestart same can.0
     by-test false found rest = rest found
 
 room-with : (test : ℕ → Bool) (v : Numbers) (became : Opened) → CanRestartAll v → CanRestart became → CanRestartAll (set_value test v became)
@@ -150,12 +146,3 @@ tidy-over c live now kept became v new w over taken keeps is =
           ∙ ap (λ b. cond (is_at (nat_cmp c) d) b (is_some (seat_at d v))) (sym (over-by-weight became over)) ∙ live-written c kept became v new w d;
       roomy = roomy-with c kept became v new w keeps is.roomy;
     }
-
-finished-weight : (change : Change) (kept became : Opened) → Finished change kept became → weight kept ≡ 1
-finished-weight change (Opened.Live seat) became f = refl
-finished-weight change Opened.Over became f = absurd f
-
-pub tidy-finished : (change : Change) (c : ℕ) (live : BTreeSet ℕ) (kept became : Opened) (v new : Numbers) → Written c kept became v new
-    → Finished change kept became → weight became ≡ 1 → (CanRestart kept → CanRestart became) → IsTidy v live → IsTidy new live
-tidy-finished change c live kept became v new w finished stays keeps is =
-    tidy c live kept became v new w (stays ∙ sym (finished-weight change kept became finished)) keeps is

@@ -1,15 +1,15 @@
 -- What is made of all queues where one of them becomes another.
-use Rattle.std.proofs.Common.{◌≡◌, ◌≤◌, ◌+◌, ◌==◌, ℕ, Bool, true, false, List, [], ◌∷◌, ◌++◌, Option, Some, None, refl, sym, ap, subst, ◌∙◌, arith, append-nil}
+use Rattle.std.proofs.Common.{◌≡◌, ◌≤◌, ◌+◌, ◌==◌, ℕ, Bool, true, false, List, [], ◌∷◌, ◌++◌, length, Option, Some, None, refl, sym, ap, subst, ◌∙◌, arith, append-nil}
 use Rattle.std.specs.Prelude.{unwrap_or}
 use Rattle.std.specs.Ordering.{nat_cmp}
 use Rattle.std.specs.BTreeMap.{is_at, insert_entry}
 use Rattle.std.specs.Map.{lookup}
 use Rattle.cable_base.specs.declared.numbers.ConnNo.{ConnNo}
 use Rattle.conn_seat.specs.declared.outs.Out.{Out}
-use Rattle.conn_seat.specs.Outboxes.{OutboxState, Puts, PutsAll, Takes, Widens, forgotten_of, unused}
+use Rattle.conn_seat.specs.Outboxes.{OutboxState, Puts, PutsAll, Takes, Widens, forgotten_after, unused}
 use Rattle.node_seats.specs.declared.queues.Queued.{Queued}
 use Rattle.node_seats.specs.Outboxes.{OutboxesState, all_on, forgotten_at, outbox_at, outs_for, queue_at, taken_at}
-use Rattle.node_seats.specs.Outboxes.{Forgets, Greets, Queues, QueuesOne, TakesOut, WidensAll}
+use Rattle.node_seats.specs.Outboxes.{Forgets, Greets, Queues, Spends, TakesOut, WidensAll}
 use Rattle.node_seats.proofs.Faces.{Written, found-now, others-now}
 use Rattle.node_seats.proofs.Lookups.{new-there, new-elsewhere}
 use Rattle.node_seats.proofs.Queueing.{same-number, self, turned, outs-on, outs-off}
@@ -79,7 +79,7 @@ module _ (c : ℕ) (kept became : OutboxState) (v new : OutboxesState) (one : On
     forgotten = each (λ d o p. p.forgotten ≡ o.forgotten) w.forgotten (λ d o e. refl);
   }
 
-  pub forgets : kept.queued ≡ [] → became ≡ forgotten_of kept → Forgets c v new
+  pub forgets : kept.queued ≡ [] → became ≡ forgotten_after kept.taken → Forgets c v new
   forgets empty f = record {
     forgotten = ap (λ (o : OutboxState). o.forgotten) (one.is ∙ f);
     queue = each (λ d o p. p.queued ≡ o.queued) (ap (λ (o : OutboxState). o.queued) f ∙ sym empty) (λ d o e. refl);
@@ -118,16 +118,6 @@ takes-none c out v new none empty same = record {
   forgotten = λ d. ap (forgotten_at d) same;
 }
 
-pub queues-one : (q : Queued) (kept became : OutboxState) (v new : OutboxesState) → OnOne q.conn.0 kept became v new
-    → Puts q.out kept became → QueuesOne q v new
-queues-one q kept became v new one p = record {
-  queue = ap (λ (o : OutboxState). o.queued) one.is ∙ p.queued ∙ ap (λ (o : OutboxState). o.queued ++ q.out ∷ []) (sym one.was);
-  taken = ap (λ (o : OutboxState). o.taken) one.is ∙ p.taken ∙ ap (λ (o : OutboxState). o.taken) (sym one.was);
-  room = ap (λ (o : OutboxState). o.room + 1) one.is ∙ p.room ∙ ap (λ (o : OutboxState). o.room) (sym one.was);
-  forgotten = ap (λ (o : OutboxState). o.forgotten) one.is ∙ p.forgotten ∙ ap (λ (o : OutboxState). o.forgotten) (sym one.was);
-  others = one.others;
-}
-
 queues-on : (conn : ConnNo) (outs : List Out) (kept became : OutboxState) (v new : OutboxesState) → OnOne conn.0 kept became v new
     → became.queued ≡ kept.queued ++ outs → became.taken ≡ kept.taken → became.forgotten ≡ kept.forgotten → Queues (all_on conn outs) v new
 queues-on conn outs kept became v new one queued taken forgotten = record {
@@ -141,6 +131,14 @@ queues-on conn outs kept became v new one queued taken forgotten = record {
 pub queues-all : (conn : ConnNo) (outs : List Out) (kept became : OutboxState) (v new : OutboxesState) → OnOne conn.0 kept became v new
     → PutsAll outs kept became → Queues (all_on conn outs) v new
 queues-all conn outs kept became v new one p = queues-on conn outs kept became v new one p.queued p.taken p.forgotten
+
+pub queues-one : (q : Queued) (kept became : OutboxState) (v new : OutboxesState) → OnOne q.conn.0 kept became v new → Puts q.out kept became → Queues (q ∷ []) v new
+queues-one q kept became v new one p = queues-on q.conn (q.out ∷ []) kept became v new one p.queued p.taken p.forgotten
+
+pub spends-one : (q : Queued) (kept became : OutboxState) (v new : OutboxesState) → OnOne q.conn.0 kept became v new → Puts q.out kept became → Spends (q ∷ []) v new
+spends-one q kept became v new one p = each q.conn.0 kept became v new one (λ d o n. n.room + length (outs_for d (q ∷ [])) ≡ o.room)
+    (let l = ap length (outs-on q.conn.0 q [] (self q.conn.0)) in let r = p.room in omega (arith, l, r))
+    (λ d o e. let l = ap length (outs-off d q [] (turned d q.conn.0 e)) in omega (arith, l))
 
 -- a connection more, and its greeting
 pub greets : (conn : ConnNo) (greeting : Out) (o : OutboxState) (v new : OutboxesState) → OnOne conn.0 unused o v new → Greets greeting o

@@ -54,14 +54,11 @@ leaves-it c past now Opened.Over l h =
 pub leaves-other : (c : ℕ) (e : Step) (past : List Step) → is_of c e ≡ false → is_of_all e ≡ false → Leaves c past (e ∷ past)
 leaves-other c (Step.Boot last) past e all = record { user = refl; seated = refl; marked = refl }
 leaves-other c (Step.Open d token user) past e all = record { user = rw e refl; seated = refl; marked = refl }
-leaves-other c (Step.In d text) past e all = record { user = refl; seated = rw e refl; marked = refl }
-leaves-other c (Step.Drop d) past e all = record { user = refl; seated = rw e refl; marked = refl }
 leaves-other c Step.Stop past e all = absurd cc
-leaves-other c (Step.Take d) past e all = record { user = refl; seated = rw e refl; marked = refl }
-leaves-other c (Step.Finish d puts plan) past e all = record { user = refl; seated = rw e refl; marked = refl }
 leaves-other c (Step.Ask turn) past e all = record { user = refl; seated = refl; marked = refl }
 leaves-other c (Step.Deliver turn note) past e all = absurd cc
 leaves-other c (Step.Beat now) past e all = record { user = refl; seated = refl; marked = refl }
+leaves-other c _ past e all = record { user = refl; seated = rw e refl; marked = refl }
 
 -- ---- all of them
 

@@ -1,7 +1,6 @@
 -- That there is room for what is to be queued, where it was made.
-use Rattle.std.proofs.Common.{◌≡◌, ◌≤◌, ◌==◌, ◌||◌, ℕ, Bool, true, false, cond, List, [], ◌∷◌, length, map, filter, refl, ap, subst, ◌∙◌, arith}
+use Rattle.std.proofs.Common.{◌≡◌, ◌≤◌, ◌==◌, ◌||◌, ℕ, Bool, true, false, cond, List, [], ◌∷◌, length, map, filter, refl, ap, ◌∙◌, arith}
 use Rattle.std.specs.List.{list_any}
-use Rattle.std.proofs.lemmas.Bool.Decides.{nat_tests}
 use Rattle.cable_base.specs.declared.numbers.ConnNo.{ConnNo}
 use Rattle.node_seats.specs.declared.queues.Queued.{Queued}
 use Rattle.node_seats.specs.Outboxes.{OutboxesState, CanQueue, is_on, outs_for, room_at}
@@ -43,11 +42,3 @@ room_each conns qs v same once room c = by-any (list_any (λ (d : ConnNo). d.0 =
     by-any : (b : Bool) → list_any (λ (d : ConnNo). d.0 == c) conns ≡ b → length (outs_for c qs) ≤ room_at c v
     by-any true found = omega (arith, sum, once c, room c found)
     by-any false none = omega (arith, sum, none-times c conns none)
-
--- one alone
-pub room_one : (q : Queued) (v : OutboxesState) → 1 ≤ room_at q.conn.0 v → CanQueue (q ∷ []) v
-room_one q v room c = by-test (q.conn.0 == c) refl
-  where
-    by-test : (b : Bool) → (q.conn.0 == c) ≡ b → length (map (λ (x : Queued). x.out) (cond b (q ∷ []) [])) ≤ room_at c v
-    by-test true e = let same : q.conn.0 ≡ c = grind (arith, nat_tests) in subst (λ (n : ℕ). 1 ≤ room_at n v) same room
-    by-test false e = omega arith

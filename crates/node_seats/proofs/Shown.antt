@@ -6,7 +6,7 @@ use Rattle.std.specs.BTreeMap.{insert_entry, is_at}
 use Rattle.std.specs.BTreeSet.{BTreeSet}
 use Rattle.std.specs.Map.{lookup, keys_of}
 use Rattle.std.specs.List.Sorted.{IsStrictlySortedBy}
-use Rattle.std.proofs.lemmas.Map.Made.{lookup-map_values}
+use Rattle.std.proofs.lemmas.Map.Made.{keys_of-map_values, lookup-map_values}
 use Rattle.cable_base.specs.declared.faults.OutOfMemory.{OutOfMemory}
 use Rattle.conn_seat.specs.Outboxes.{OutboxState, unused}
 use Rattle.node_seats.specs.declared.slots.Slot.{Slot}
@@ -14,7 +14,7 @@ use Rattle.node_seats.specs.Numbers.{NodeSeats, Numbers, Opened, Moves, Rising, 
 use Rattle.node_seats.specs.Inside.{IsTidy}
 use Rattle.node_seats.specs.Outboxes.{OutboxesState, outbox_at}
 use Rattle.node_seats.specs.Slots.{numbers_of, opened_of, outbox_of, outboxes_of}
-use Rattle.node_seats.proofs.Faces.{Written, face, found-mapped, insert-mapped, missing-mapped, keys-mapped, same-now}
+use Rattle.node_seats.proofs.Faces.{Written, face, found-mapped, insert-mapped, missing-mapped, same-now}
 use Rattle.node_seats.proofs.Moving.{moves}
 use Rattle.node_seats.proofs.OneQueue.{OnOne, on-new, on-one}
 
@@ -23,7 +23,7 @@ abbrev pub shown : List (ℕ × Slot) → NodeSeats
 shown es = record { entries = numbers_of es; outs = record { entries = outboxes_of es } }
 
 pub risen : (es : List (ℕ × Slot)) → IsStrictlySortedBy nat_cmp (keys_of es) → Rising (numbers_of es)
-risen es rising = subst (IsStrictlySortedBy nat_cmp) (sym (keys-mapped opened_of es)) rising
+risen es rising = subst (IsStrictlySortedBy nat_cmp) (sym (keys_of-map_values opened_of es)) rising
 
 -- ---- what is found
 

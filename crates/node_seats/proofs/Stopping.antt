@@ -108,13 +108,12 @@ each-stops v new (e ∷ es) (f ∷ fs) numbers was is each =
     first : f.0 ≡ e.0
     first = cc numbers
 
-    is-it : (o p : Opened) → Some o ≡ Some p → o ≡ p
-    is-it o p same = cc same
-
     here : Restarts e.1 f.1
     here =
         let r = subst (λ o. RestartsIn o (opened_at e.0 new)) was.0 (each e.0) in
-        subst (Restarts e.1) (is-it r.0 f.1 (sym r.2 ∙ subst (λ (k : ℕ). opened_at k new ≡ Some f.1) first is.0)) r.1
+        let there : Some r.0 ≡ Some f.1 = sym r.2 ∙ subst (λ (k : ℕ). opened_at k new ≡ Some f.1) first is.0 in
+        let same : r.0 ≡ f.1 = cc there in
+        subst (Restarts e.1) same r.1
 
 same-live : (o p : Option Opened) → RestartsIn o p → is_some (seat_in o) ≡ is_some (seat_in p)
 same-live None p r = ap (λ (x : Option Opened). is_some (seat_in x)) (sym r)

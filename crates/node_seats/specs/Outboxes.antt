@@ -44,14 +44,6 @@ pub record WidensAll (v new : OutboxesState) : Type 0 where
   pub room : (c : ℕ) → room_at c v ≤ room_at c new
   pub forgotten : (c : ℕ) → forgotten_at c new ≡ forgotten_at c v
 
--- one is queued behind what was, in the room for it
-pub record QueuesOne (q : Queued) (v new : OutboxesState) : Type 0 where
-  pub queue : queue_at q.conn.0 new ≡ queue_at q.conn.0 v ++ q.out ∷ []
-  pub taken : taken_at q.conn.0 new ≡ taken_at q.conn.0 v
-  pub room : room_at q.conn.0 new + 1 ≡ room_at q.conn.0 v
-  pub forgotten : forgotten_at q.conn.0 new ≡ forgotten_at q.conn.0 v
-  pub others : (d : ℕ) → (d == q.conn.0) ≡ false → outbox_at d new ≡ outbox_at d v
-
 -- ---- several at once
 
 abbrev pub is_on : ℕ → Queued → Bool
@@ -68,6 +60,10 @@ all_on conn outs = map (λ (o : Out). record { conn = conn; out = o }) outs
 -- there is room for these
 abbrev pub CanQueue : List Queued → OutboxesState → Type 0
 CanQueue qs v = (c : ℕ) → length (outs_for c qs) ≤ room_at c v
+
+-- they take up so much of it
+abbrev pub Spends : List Queued → OutboxesState → OutboxesState → Type 0
+Spends qs v new = (c : ℕ) → room_at c new + length (outs_for c qs) ≡ room_at c v
 
 -- these are queued behind what was
 pub record Queues (qs : List Queued) (v new : OutboxesState) : Type 0 where

@@ -1,8 +1,8 @@
-ghost use Rattle.std.specs.Prelude.{◌≡◌, ◌≤◌, ◌==◌, ℕ, [], true, false, is_some, OnOk};
+ghost use Rattle.std.specs.Prelude.{◌≡◌, ◌≤◌, ◌==◌, ℕ, [], ◌∷◌, true, false, is_some, OnOk};
 ghost use Rattle.std.specs.List.{AllByRecursion, list_any};
 ghost use Rattle.cable_base.specs.declared.numbers.ConnNo.{ConnNo};
 ghost use Rattle.node_seats.specs.Numbers.{is_over_at, opened_at};
-ghost use Rattle.node_seats.specs.Outboxes.{CanQueue, Forgets, Queues, QueuesOne, TakesOut, WidensAll, forgotten_at, queue_at, room_at};
+ghost use Rattle.node_seats.specs.Outboxes.{CanQueue, Forgets, Queues, Spends, TakesOut, WidensAll, forgotten_at, queue_at, room_at};
 
 use crate::seats::Seats;
 use cable_base::{ConnNo, OutOfMemory};
@@ -23,10 +23,11 @@ impl Seats {
         ensures same { WidensAll self.old.outs self.new.outs }
         ensures ok { OnOk result (1 ≤ room_at conn.0 self.new.outs) }
     {
+        let alloc = self.alloc;
         let Some(slot) = self.by_number.get_mut(&conn.0) else {
             unreachable!()
         };
-        slot.reserve_outs(1)
+        slot.reserve_outs(alloc, 1)
     }
 
     /// Makes room for one more to be queued on each of these connections, which were opened. It is refused where memory is wanted, or where
@@ -47,7 +48,8 @@ impl Seats {
     fn queue(&mut self, more: Queued)
         requires room { 1 ≤ room_at more.conn.0 self.old.outs }
         ensures entries { self.new.entries ≡ self.old.entries }
-        ensures queues { QueuesOne more self.old.outs self.new.outs }
+        ensures queues { Queues (more ∷ []) self.old.outs self.new.outs }
+        ensures spends { Spends (more ∷ []) self.old.outs self.new.outs }
     {
         let Some(slot) = self.by_number.get_mut(&more.conn.0) else {
             unreachable!()
@@ -79,7 +81,7 @@ impl Seats {
         ensures { (result ≡ true → queue_at conn.0 self.now.outs ≡ []) × (result ≡ false → queue_at conn.0 self.now.outs ≡ [] → ⊥) }
     {
         match self.by_number.get(&conn.0) {
-            Some(slot) => slot.outbox().is_empty(),
+            Some(slot) => slot.is_drained(),
             None => true,
         }
     }
@@ -92,11 +94,10 @@ impl Seats {
         ensures entries { self.new.entries ≡ self.old.entries }
         ensures forgets { Forgets conn.0 self.old.outs self.new.outs }
     {
-        let alloc = self.alloc;
         let Some(slot) = self.by_number.get_mut(&conn.0) else {
             unreachable!()
         };
-        slot.forget(alloc);
+        slot.forget();
     }
 
     /// Whether the connection was forgotten. It takes no memory.
@@ -104,7 +105,7 @@ impl Seats {
         ensures { result ≡ forgotten_at conn.0 self.now.outs }
     {
         match self.by_number.get(&conn.0) {
-            Some(slot) => slot.outbox().is_forgotten(),
+            Some(slot) => slot.is_forgotten(),
             None => false,
         }
     }

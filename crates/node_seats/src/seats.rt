@@ -99,10 +99,10 @@ fn restart_all(by_number: &mut BTreeMap<u64, Slot>, live: &BTreeSet<u64>)
 }
 
 /// What is queued on a connection that opens: its greeting.
-fn greeted(alloc: Global, greeting: Out) -> Result<Outbox, OutOfMemory>
-    ensures { IfOk result (λ o. Greets greeting o) }
+fn greeted(alloc: Global, greeting: Out) -> Result<Box<Outbox>, OutOfMemory>
+    ensures { IfOk result (λ o. Greets greeting o.value) }
 {
-    let mut outbox = Outbox::empty(alloc);
+    let mut outbox = Box::new(alloc, Outbox::empty(alloc))?;
     outbox.reserve(1)?;
     outbox.put(greeting);
     Ok(outbox)
@@ -264,11 +264,10 @@ impl Seats {
         ensures made { Moves conn.0 (Finished plan.now.change) self.old.entries self.new.entries }
         ensures queues { Queues (all_on conn outs.items) self.old.outs self.new.outs }
     {
-        let alloc = self.alloc;
         let Some(slot) = self.by_number.get_mut(&conn.0) else {
             unreachable!()
         };
-        if slot.finish(alloc, plan, outs) {
+        if slot.finish(plan, outs) {
             self.live.remove(&conn.0);
         }
     }

@@ -1,7 +1,7 @@
-ghost use Rattle.std.specs.Prelude.{◌≡◌, ◌≤◌, IfOk, IsOk, None, OnErr, OnOk, Some, [], false, is_some, length, option_map, true, unwrap_or};
+ghost use Rattle.std.specs.Prelude.{◌≡◌, ◌≤◌, IfOk, IsOk, None, OnErr, OnOk, Some, [], false, is_some, length, option_map, true};
 ghost use Rattle.cable_model.specs.Pieces.{is_closing};
 ghost use Rattle.conn_core.specs.Subscriptions.{placed_in};
-ghost use Rattle.conn_seat.specs.Outboxes.{Puts, PutsAll, Takes, forgotten_of};
+ghost use Rattle.conn_seat.specs.Outboxes.{Puts, PutsAll, Takes, forgotten_after};
 ghost use Rattle.conn_seat.specs.Outboxes.{Widens as WidensOutbox};
 ghost use Rattle.conn_seat.specs.Seats.{Seated, Becomes, CanFinish, with_change, with_piece, with_taken};
 ghost use Rattle.node_seats.specs.Numbers.{Opened, is_over_in, is_receiving_in, seat_in, weight};
@@ -13,23 +13,28 @@ use cable_base::{OutOfMemory, RowId, SubNo, Text, WantNo};
 use cable_model::{Piece, Plan, Task};
 use conn_seat::{Out, Outbox, Seat};
 use std::alloc::Global;
-use std::mem;
+use std::mem::{self, size_of};
 
-/// A live connection: its seat, and what is queued on it.
+/// A live connection: its seat, and what is queued on it. That has a box of its own, which stays where the connection ends: so its end takes
+/// no memory.
 #[derive(Debug, Drop)]
 pub struct Connection {
     pub seat: Seat,
-    pub outbox: Outbox,
+    pub outbox: Box<Outbox>,
 }
 
-/// What a node keeps of a number that was opened on it.
+/// What a node keeps of a number that was opened on it. Numbers stay, so a slot is small.
 #[derive(Debug, Drop)]
 pub enum Slot {
     /// The connection, which is live.
     Live(Box<Connection>),
     /// It was refused, or its closing piece is finished. What is queued on it can still be taken out.
-    Over(Outbox),
+    Over(Box<Outbox>),
+    /// It is over and was forgotten. So many were taken out of what was queued on it.
+    Forgotten(u64),
 }
+
+const _: () = prove!(size_of::<Slot>() == 16);
 
 /// What its worker is told of a piece that was taken.
 #[derive(Debug, PartialEq, Eq, Drop)]
@@ -69,7 +74,7 @@ impl Connection {
         ensures room { 2 ≤ self.old.seat.spare → IsOk result }
         ensures closing { CanRestart (Opened.Live self.old.seat) → is_closing piece ≡ true → IsOk result }
         ensures keeps { CanRestart (Opened.Live self.old.seat) → CanRestart (Opened.Live self.new.seat) }
-        ensures outbox { self.new.outbox ≡ self.old.outbox }
+        ensures outbox { self.new.outbox.value ≡ self.old.outbox.value }
     {
         if self.seat.is_closing() {
             return Ok(());
@@ -88,7 +93,7 @@ impl Connection {
         ensures none { IfOk result (λ e. e ≡ None → self.new ≡ self.old) }
         ensures err { OnErr result (self.new ≡ self.old) }
         ensures keeps { CanRestart (Opened.Live self.old.seat) → CanRestart (Opened.Live self.new.seat) }
-        ensures outbox { self.new.outbox ≡ self.old.outbox }
+        ensures outbox { self.new.outbox.value ≡ self.old.outbox.value }
     {
         let user = self.seat.user_text().copy(alloc)?;
         let task = self.seat.take()?;
@@ -106,36 +111,32 @@ impl Connection {
         ensures ok { OnOk result (Prepares plan.now.change self.old.seat self.new.seat) }
         ensures err { OnErr result (self.new.seat ≡ self.old.seat) }
         ensures keeps { CanRestart (Opened.Live self.old.seat) → CanRestart (Opened.Live self.new.seat) }
-        ensures outbox { WidensOutbox self.old.outbox self.new.outbox }
-        ensures room { OnOk result (outs ≤ self.new.outbox.room) }
+        ensures outbox { WidensOutbox self.old.outbox.value self.new.outbox.value }
+        ensures room { OnOk result (outs ≤ self.new.outbox.value.room) }
     {
         self.outbox.reserve(outs)?;
         self.seat.reserve_plan(plan)
     }
 
-    /// Makes the change of the plan of its job, and queues what the plan says. Where the change ends the connection, it answers what is
-    /// queued on it.
-    fn finish(&mut self, alloc: Global, plan: &Plan, outs: Vec<Out>) -> Option<Outbox>
+    /// Makes the change of the plan of its job, queues what the plan says, and answers whether the change ended the connection.
+    fn finish(&mut self, plan: &Plan, outs: Vec<Out>) -> bool
         requires can { CanFinish plan.now.change self.old.seat }
-        requires room { length outs.items ≤ self.old.outbox.room }
+        requires room { length outs.items ≤ self.old.outbox.value.room }
         ensures made { Becomes (with_change plan.now.change self.old.seat) self.new.seat }
-        ensures over { is_some result ≡ self.new.seat.over }
-        ensures queued { PutsAll outs.items self.old.outbox (unwrap_or result self.new.outbox) }
+        ensures over { result ≡ self.new.seat.over }
+        ensures queued { PutsAll outs.items self.old.outbox.value self.new.outbox.value }
     {
         self.outbox.put_all(outs);
         self.seat.finish(plan);
-        if !self.seat.is_over() {
-            return None;
-        }
-        Some(mem::replace(&mut self.outbox, Outbox::empty(alloc)))
+        self.seat.is_over()
     }
 }
 
 impl Slot {
     /// A live connection.
-    pub fn live(alloc: Global, seat: Seat, outbox: Outbox) -> Result<Slot, OutOfMemory>
+    pub fn live(alloc: Global, seat: Seat, outbox: Box<Outbox>) -> Result<Slot, OutOfMemory>
         ensures seat { IfOk result (λ s. opened_of s ≡ Opened.Live seat) }
-        ensures outbox { IfOk result (λ s. outbox_of s ≡ outbox) }
+        ensures outbox { IfOk result (λ s. outbox_of s ≡ outbox.value) }
     {
         let live = Box::new(alloc, Connection { seat, outbox })?;
         Ok(Slot::Live(live))
@@ -147,7 +148,7 @@ impl Slot {
     {
         match self {
             Slot::Live(live) => Some(&live.seat),
-            Slot::Over(_) => None,
+            Slot::Over(_) | Slot::Forgotten(_) => None,
         }
     }
 
@@ -162,7 +163,7 @@ impl Slot {
     {
         match self {
             Slot::Live(live) => live.seat.reserve(more),
-            Slot::Over(_) => unreachable!(),
+            Slot::Over(_) | Slot::Forgotten(_) => unreachable!(),
         }
     }
 
@@ -179,7 +180,7 @@ impl Slot {
     {
         match self {
             Slot::Live(live) => live.put(piece),
-            Slot::Over(_) => unreachable!(),
+            Slot::Over(_) | Slot::Forgotten(_) => unreachable!(),
         }
     }
 
@@ -195,7 +196,7 @@ impl Slot {
     {
         match self {
             Slot::Live(live) => live.take(alloc),
-            Slot::Over(_) => Ok(None),
+            Slot::Over(_) | Slot::Forgotten(_) => Ok(None),
         }
     }
 
@@ -211,7 +212,7 @@ impl Slot {
     {
         match self {
             Slot::Live(live) => live.reserve_plan(plan, outs),
-            Slot::Over(_) => unreachable!(),
+            Slot::Over(_) | Slot::Forgotten(_) => unreachable!(),
         }
     }
 
@@ -225,29 +226,40 @@ impl Slot {
     {
         match self {
             Slot::Live(live) => live.seat.place(sub, want, mark),
-            Slot::Over(_) => unreachable!(),
+            Slot::Over(_) | Slot::Forgotten(_) => unreachable!(),
         }
     }
 
     /// Makes the change of the plan of a live connection's job, queues what the plan says, and answers whether the change ended the
     /// connection: its seat is gone then, and what is queued stays.
-    pub fn finish(&mut self, alloc: Global, plan: &Plan, outs: Vec<Out>) -> bool
+    pub fn finish(&mut self, plan: &Plan, outs: Vec<Out>) -> bool
         requires can { (s : Seated) × (opened_of self.old ≡ Opened.Live s) × CanFinish plan.now.change s }
         requires room { length outs.items ≤ (outbox_of self.old).room }
         ensures made { Finished plan.now.change (opened_of self.old) (opened_of self.new) }
         ensures keeps { CanRestart (opened_of self.old) → CanRestart (opened_of self.new) }
-        ensures over { (result ≡ true → weight (opened_of self.new) ≡ 0) × (result ≡ false → weight (opened_of self.new) ≡ 1) }
+        ensures over { (result ≡ true → weight (opened_of self.new) ≡ 0) × (result ≡ false → weight (opened_of self.new) ≡ weight (opened_of self.old)) }
         ensures queued { PutsAll outs.items (outbox_of self.old) (outbox_of self.new) }
     {
         let ended = match self {
-            Slot::Live(live) => live.finish(alloc, plan, outs),
-            Slot::Over(_) => unreachable!(),
+            Slot::Live(live) => live.finish(plan, outs),
+            Slot::Over(_) | Slot::Forgotten(_) => unreachable!(),
         };
-        let Some(outbox) = ended else {
-            return false;
+        if ended {
+            self.end();
+        }
+        ended
+    }
+
+    /// Ends a live connection: its seat's memory goes back, and what is queued stays.
+    fn end(&mut self)
+        requires { is_some (seat_in (Some (opened_of self.old))) ≡ true }
+        ensures opened { opened_of self.new ≡ Opened.Over }
+        ensures outbox { outbox_of self.new ≡ outbox_of self.old }
+    {
+        let Slot::Live(live) = mem::replace(self, Slot::Forgotten(0)) else {
+            unreachable!()
         };
-        *self = Slot::Over(outbox);
-        true
+        *self = Slot::Over(Box::into_inner(live).outbox);
     }
 
     /// Puts the piece of a stop on a live connection, where it isn't closing.
@@ -267,7 +279,7 @@ impl Slot {
     pub fn is_over(&self) -> bool
         ensures { result ≡ is_over_in (Some (opened_of self.now)) }
     {
-        matches!(self, Slot::Over(_))
+        !matches!(self, Slot::Live(_))
     }
 
     /// Whether it is live and not closing.
@@ -276,22 +288,34 @@ impl Slot {
     {
         match self {
             Slot::Live(live) => live.seat.is_receiving(),
-            Slot::Over(_) => false,
+            Slot::Over(_) | Slot::Forgotten(_) => false,
         }
     }
 
-    /// What is queued on it.
-    pub fn outbox(&self) -> &Outbox
-        ensures { result.now ≡ outbox_of self.now }
+    /// Whether nothing is queued on it.
+    pub fn is_drained(&self) -> bool
+        ensures { (result ≡ true → (outbox_of self.now).queued ≡ []) × (result ≡ false → (outbox_of self.now).queued ≡ [] → ⊥) }
     {
         match self {
-            Slot::Live(live) => &live.outbox,
-            Slot::Over(outbox) => outbox,
+            Slot::Live(live) => live.outbox.is_empty(),
+            Slot::Over(outbox) => outbox.is_empty(),
+            Slot::Forgotten(_) => true,
+        }
+    }
+
+    /// Whether it was forgotten.
+    pub fn is_forgotten(&self) -> bool
+        ensures { result ≡ (outbox_of self.now).forgotten }
+    {
+        match self {
+            Slot::Live(live) => live.outbox.is_forgotten(),
+            Slot::Over(outbox) => outbox.is_forgotten(),
+            Slot::Forgotten(_) => true,
         }
     }
 
     /// Makes room for so many more to be queued.
-    pub fn reserve_outs(&mut self, more: u64) -> Result<(), OutOfMemory>
+    pub fn reserve_outs(&mut self, alloc: Global, more: u64) -> Result<(), OutOfMemory>
         ensures opened { opened_of self.new ≡ opened_of self.old }
         ensures same { WidensOutbox (outbox_of self.old) (outbox_of self.new) }
         ensures ok { OnOk result (more ≤ (outbox_of self.new).room) }
@@ -299,6 +323,12 @@ impl Slot {
         match self {
             Slot::Live(live) => live.outbox.reserve(more),
             Slot::Over(outbox) => outbox.reserve(more),
+            Slot::Forgotten(taken) => {
+                let mut outbox = Box::new(alloc, Outbox::forgotten(alloc, *taken))?;
+                outbox.reserve(more)?;
+                *self = Slot::Over(outbox);
+                Ok(())
+            }
         }
     }
 
@@ -311,6 +341,7 @@ impl Slot {
         match self {
             Slot::Live(live) => live.outbox.put(out),
             Slot::Over(outbox) => outbox.put(out),
+            Slot::Forgotten(_) => unreachable!(),
         }
     }
 
@@ -322,19 +353,20 @@ impl Slot {
         match self {
             Slot::Live(live) => live.outbox.take_out(),
             Slot::Over(outbox) => outbox.take_out(),
+            Slot::Forgotten(_) => None,
         }
     }
 
-    /// Gives back the memory of the queue of one that is over, and marks it as forgotten.
-    pub fn forget(&mut self, alloc: Global)
+    /// Gives back the memory of the queue of one that is over, and keeps only how many were taken out.
+    pub fn forget(&mut self)
         requires over { opened_of self.old ≡ Opened.Over }
         requires empty { (outbox_of self.old).queued ≡ [] }
         ensures opened { opened_of self.new ≡ opened_of self.old }
-        ensures outbox { outbox_of self.new ≡ forgotten_of (outbox_of self.old) }
+        ensures outbox { outbox_of self.new ≡ forgotten_after (outbox_of self.old).taken }
     {
-        let Slot::Over(outbox) = self else {
-            unreachable!()
-        };
-        outbox.forget(alloc);
+        if let Slot::Over(outbox) = self {
+            let taken = outbox.taken();
+            *self = Slot::Forgotten(taken);
+        }
     }
 }

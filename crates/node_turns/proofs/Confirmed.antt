@@ -1,12 +1,10 @@
 -- The confirmations that are due with the wants that the turn takes are those that the journal says.
-use Rattle.std.proofs.Common.{ℕ, suc, ◌+◌, ◌≡◌, ◌≤◌, ◌<◌, ◌==◌, ◌&&◌, ◌||◌, Bool, true, false, cond, List, [], ◌∷◌, ◌++◌, length, map, take, Some, None, Option}
+use Rattle.std.proofs.Common.{ℕ, suc, ◌+◌, ◌≡◌, ◌≤◌, ◌<◌, ◌==◌, ◌&&◌, ◌||◌, Bool, true, false, cond, List, [], ◌∷◌, length, map, take, Some, None, Option}
 use Rattle.std.proofs.Common.{refl, ap, sym, subst, ◌∙◌, arith, is_none, is_some}
 use Rattle.std.specs.Prelude.{leb, ltb}
 use Rattle.std.specs.List.{list_any, AllByRecursion}
 use Rattle.std.proofs.lemmas.Bool.{leb-true}
 use Rattle.std.proofs.lemmas.Bool.Decides.{nat_tests}
-use Rattle.std.proofs.lemmas.List.{append-nil}
-use Rattle.cable_base.proofs.Each.{All-append, All-implied}
 use Rattle.cable_model.specs.Connection.{Sub}
 use Rattle.cable_model.specs.declared.journals.ReadNote.{ReadNote}
 use Rattle.cable_model.specs.declared.pieces.Piece.{Piece}
@@ -21,14 +19,14 @@ use Rattle.conn_core.specs.Subscriptions.{has_number}
 use Rattle.conn_seat.specs.Seated.{marks_at}
 use Rattle.conn_seat.specs.Seats.{Seated}
 use Rattle.node_seats.specs.AreSeats.{AreSeats}
-use Rattle.node_seats.specs.declared.turning.Delivery.{Delivery}
 use Rattle.node_seats.specs.declared.turning.Wanted.{Wanted}
-use Rattle.node_seats.specs.Numbers.{Numbers, Opened, opened_at, seat_at, seat_in}
+use Rattle.node_seats.specs.Numbers.{Numbers, Opened, opened_at}
 use Rattle.node_seats.specs.Turned.{pieces_for, wanted_by}
-use Rattle.node_turns.specs.Wants.{confirms_of, stands_in}
-use Rattle.node_turns.specs.Wished.{AreWished, taken_count, found_made, wants_of}
-use Rattle.cable_model.proofs.Holding.{marks-at_ask}
-use Rattle.node_turns.proofs.WantsCounted.{userless-mark, legal-at_ask, wants-length, count-last, count-within}
+use Rattle.node_turns.specs.Wants.{confirms_of}
+use Rattle.node_turns.specs.Wished.{AreWished, taken_count, found_made}
+use Rattle.node_turns.proofs.Gone.{live-found}
+use Rattle.node_turns.proofs.TurnsSeen.{above-none, seens}
+use Rattle.node_turns.proofs.WantsCounted.{userless-mark}
 use Rattle.node_turns.proofs.WantsNumbered.{Numbered}
 use Rattle.node_turns.proofs.WantsOwned.{Owns, owned, is_due, DuesFrom, dues_of, one-due}
 use Rattle.node_turns.proofs.MarksPlaced.{found, none-found}
@@ -79,16 +77,12 @@ not-due n (Some d) os e h = let g = h.0 in grind (arith, nat_tests)
 -- a want whose confirmation is due with none of these confirms none of them
 none-due : (y : Wanted) (n : ℕ) (xs : List Sub) (e : ℕ) → y.want.0 ≡ n → AllByRecursion (Owns y) xs → DuesFrom n (dues_of xs) e
     → (y.confirms && list_any (λ (x : Sub). x.number == y.sub.0) xs) ≡ false
-none-due y n [] e w o h = elim y.confirms as (λ b. (b && false) ≡ false) [ true ↦ refl | false ↦ refl ]
-none-due y n (x ∷ xs) e w o h = go (x.number == y.sub.0) refl (none-due y n xs e w o.1 (one-due n x.due (dues_of xs) e h))
-  where
-    go : (b : Bool) → (x.number == y.sub.0) ≡ b → (y.confirms && list_any (λ (x : Sub). x.number == y.sub.0) xs) ≡ false
-        → (y.confirms && list_any (λ (x : Sub). x.number == y.sub.0) (x ∷ xs)) ≡ false
-    go false b ih = rw b ih
-    go true b ih =
-        let same : y.sub.0 ≡ x.number = grind (arith, nat_tests) in
-        let f : y.confirms ≡ false = o.0.due same ∙ ap (is_due x.due) w ∙ not-due n x.due (dues_of xs) e h in
-        rw f refl
+none-due y n [] e w o h = grind arith
+none-due y n (x ∷ xs) e w o h =
+    let ih = none-due y n xs e w o.1 (one-due n x.due (dues_of xs) e h) in
+    let d = not-due n x.due (dues_of xs) e h in
+    let at = o.0.due in
+    grind (arith, nat_tests, ih, d, at)
 
 -- the want of the number n confirms the subscription whose due is n
 at-due : (y : Wanted) (n hi b : ℕ) (xs : List Sub) (e : ℕ) → n < hi → y.want.0 ≡ n → AllByRecursion (Owns y) xs → DuesFrom b (dues_of xs) e
@@ -104,18 +98,7 @@ at-due y n hi b (x ∷ xs) e l w o h = by-due x.due refl (λ a g. at-due y n hi 
         → due_there n hi (x ∷ xs)
         ≡ cond (y.confirms && list_any (λ (x : Sub). x.number == y.sub.0) (x ∷ xs)) (piece.Confirm y.sub ∷ due_there (suc n) hi (x ∷ xs))
         (due_there (suc n) hi (x ∷ xs))
-    other f g d ih = by-number (x.number == y.sub.0) refl
-      where
-        by-number : (t : Bool) → (x.number == y.sub.0) ≡ t
-            → due_there n hi (x ∷ xs)
-            ≡ cond (y.confirms && list_any (λ (x : Sub). x.number == y.sub.0) (x ∷ xs)) (piece.Confirm y.sub ∷ due_there (suc n) hi (x ∷ xs))
-            (due_there (suc n) hi (x ∷ xs))
-        by-number false t = rw (f, g, t) ih
-        by-number true t =
-            let same : y.sub.0 ≡ x.number = grind (arith, nat_tests) in
-            let c : y.confirms ≡ false = o.0.due same ∙ ap (is_due x.due) w ∙ d in
-            let ih' = rw c at ih in
-            rw (f, g, c) ih'
+    other f g d ih = let due = o.0.due in grind (arith, nat_tests, f, g, d, ih, due, w)
 
     by-due : (d : Option ℕ) → x.due ≡ d
         → ((a : ℕ) → DuesFrom a (dues_of xs) e
@@ -179,41 +162,8 @@ here-due n (y ∷ ys) xs e h o r =
 -- a want that a turn took has a mark
 marked-below : (w : ℕ) (ms : List Mark) → w < taken_count ms → is_none (mark_of w ms) ≡ false
 marked-below w [] l = absurd (omega (arith, l))
-marked-below w (t ∷ []) l = let f : leb w t.seen ≡ true = grind (arith, nat_tests) in rw f refl
-marked-below w (t ∷ r ∷ ts) l = go (leb w t.seen) refl (marked-below w (r ∷ ts) l)
-  where
-    go : (b : Bool) → leb w t.seen ≡ b → is_none (mark_of w (r ∷ ts)) ≡ false → is_none (mark_of w (t ∷ r ∷ ts)) ≡ false
-    go true b ih = rw b refl
-    go false b ih = rw b ih
-
-above-none : (k w : ℕ) (ms : List Mark) → AllByRecursion (λ (t : Mark). suc t.seen ≤ k) ms → k ≤ w → mark_of w ms ≡ None
-above-none k w [] h l = refl
-above-none k w (t ∷ ts) h l = let g = h.0 in let f : leb w t.seen ≡ false = grind (arith, nat_tests) in rw f (above-none k w ts h.1 l)
-
--- each turn found no more than the last one
-seens : (c : ℕ) (past : List Step) → Legal past → AllByRecursion (λ (t : Mark). suc t.seen ≤ taken_count (marks c past)) (marks c past)
-seens c [] l = tt
-seens c (Step.Deliver turn note ∷ past) l = go (user_of c (at_ask past)) refl note.failed refl (seens c past l.1)
-  where
-    go : (u : Option (List ℕ)) → user_of c (at_ask past) ≡ u → (f : Bool) → note.failed ≡ f
-        → AllByRecursion (λ (t : Mark). suc t.seen ≤ taken_count (marks c past)) (marks c past)
-        → AllByRecursion (λ (t : Mark). suc t.seen ≤ taken_count (marks c past ++ turn_mark c note past)) (marks c past ++ turn_mark c note past)
-    go None u f f' ih = rw (u, append-nil (marks c past)) ih
-    go (Some x) u true f ih = rw (u, f, append-nil (marks c past)) ih
-    go (Some x) u false f ih =
-        let t : Mark = record { seen = made c (at_ask past); last = note.last.0 } in
-        let mark : turn_mark c note past ≡ t ∷ [] = rw (u, f) refl in
-        let count = count-last (marks c past) t in
-        let found_is = wants-length c x (at_ask past) (legal-at_ask past l.1) u in
-        let before : taken_count (marks c past) ≤ length (wants_of c (at_ask past)) =
-        subst (λ ms. taken_count ms ≤ length (wants_of c (at_ask past))) (sym (marks-at_ask c past l.0.0))
-        (count-within c (at_ask past) (legal-at_ask past l.1)) in
-        let most : taken_count (marks c past) ≤ suc (made c (at_ask past)) = omega (arith, before, found_is) in
-        rw (mark, count)
-        (All-append (λ (m : Mark). suc m.seen ≤ suc (made c (at_ask past))) (marks c past) (t ∷ [])
-        (All-implied (λ (m : Mark). suc m.seen ≤ taken_count (marks c past)) (λ (m : Mark). suc m.seen ≤ suc (made c (at_ask past))) (marks c past)
-        (λ m g. omega (arith, g, most)) ih) (omega arith, tt))
-seens c (_ ∷ past) l = seens c past l.1
+marked-below w (t ∷ []) l = grind (arith, nat_tests)
+marked-below w (t ∷ r ∷ ts) l = grind (arith, nat_tests, marked-below w (r ∷ ts) l)
 
 takes-due : (ms : List Mark) (t : Mark) (o : Option ℕ) → AllByRecursion (λ (m : Mark). suc m.seen ≤ taken_count ms) ms
     → takes_now ms (t ∷ []) o ≡ due_within (taken_count ms) (suc t.seen) o
@@ -221,11 +171,7 @@ takes-due ms t None h = refl
 takes-due ms t (Some d) h = go (leb (taken_count ms) d) refl
   where
     upto : is_some (mark_of d (t ∷ [])) ≡ ltb d (suc t.seen)
-    upto = by-test (leb d t.seen) refl
-      where
-        by-test : (b : Bool) → leb d t.seen ≡ b → is_some (mark_of d (t ∷ [])) ≡ ltb d (suc t.seen)
-        by-test true b = let f : ltb d (suc t.seen) ≡ true = grind (arith, nat_tests) in rw (b, f) refl
-        by-test false b = let f : ltb d (suc t.seen) ≡ false = grind (arith, nat_tests) in rw (b, f) refl
+    upto = grind (arith, nat_tests)
 
     go : (b : Bool) → leb (taken_count ms) d ≡ b → (is_none (mark_of d ms) && is_some (mark_of d (t ∷ []))) ≡ (leb (taken_count ms) d && ltb d (suc t.seen))
     go true b =
@@ -244,7 +190,7 @@ confirms-due ms t (x ∷ xs) h =
 
 takes-none : (ms : List Mark) (o : Option ℕ) → takes_now ms [] o ≡ false
 takes-none ms None = refl
-takes-none ms (Some d) = elim (is_none (mark_of d ms)) as (λ b. (b && false) ≡ false) [ true ↦ refl | false ↦ refl ]
+takes-none ms (Some d) = grind arith
 
 confirms-none : (ms : List Mark) (xs : List Sub) → confirm_puts ms [] xs ≡ []
 confirms-none ms [] = refl
@@ -260,40 +206,23 @@ same-here ms (x ∷ xs) y = ap (λ b. (x.number == y.sub.0) || b) (same-here ms 
 for-conn : (c : ℕ) (v : Numbers) (s : Seated) (ms : Marks) (subs : List Sub) (xs : List Wanted) → opened_at c v ≡ Some (Opened.Live s)
     → s.subs ≡ map (marked_sub ms) subs → pieces_for c (confirms_of v xs) ≡ here subs (wanted_by c xs)
 for-conn c v s ms subs [] at is = refl
-for-conn c v s ms subs (y ∷ ys) at is = by-conn (y.conn.0 == c) refl (for-conn c v s ms subs ys at is)
-  where
-    on : Delivery
-    on = record { conn = y.conn; piece = piece.Confirm y.sub }
+for-conn c v s ms subs (y ∷ ys) at is =
+    let ih = for-conn c v s ms subs ys at is in
+    let stands = ap (list_any (has_number y.sub)) is ∙ same-here ms subs y in
+    grind (arith, nat_tests, ih, at, stands)
 
-    by-conn : (b : Bool) → (y.conn.0 == c) ≡ b → pieces_for c (confirms_of v ys) ≡ here subs (wanted_by c ys)
-        → pieces_for c (confirms_of v (y ∷ ys)) ≡ here subs (wanted_by c (y ∷ ys))
-    by-conn false b ih =
-        elim (y.confirms && stands_in y (seat_at y.conn.0 v)) as (λ t. pieces_for c (cond t (on ∷ confirms_of v ys) (confirms_of v ys))
-        ≡ here subs (wanted_by c (y ∷ ys))) [
-          | true ↦ rw b ih
-          | false ↦ rw b ih
-        ]
-    by-conn true b ih =
-        let e : y.conn.0 ≡ c = grind (arith, nat_tests) in
-        let seat_is : stands_in y (seat_at y.conn.0 v) ≡ list_any (λ (x : Sub). x.number == y.sub.0) subs =
-        ap (λ n. stands_in y (seat_at n v)) e ∙ ap (λ o. stands_in y (seat_in o)) at ∙ ap (list_any (has_number y.sub)) is ∙ same-here ms subs y in
-        rw (seat_is, b) (by-test (y.confirms && list_any (λ (x : Sub). x.number == y.sub.0) subs))
-      where
-        by-test : (t : Bool)
-            → pieces_for c (cond t (on ∷ confirms_of v ys) (confirms_of v ys))
-            ≡ cond t (piece.Confirm y.sub ∷ here subs (wanted_by c ys)) (here subs (wanted_by c ys))
-        by-test true = rw b (ap (λ (ps : List Piece). piece.Confirm y.sub ∷ ps) ih)
-        by-test false = ih
-
-pub turn-confirms : (c : ℕ) (note : ReadNote) (past : List Step) (v : Numbers) (s : Seated) (ws : List Wanted) (taken : ℕ)
-    → Legal past → is_out past ≡ true → note.failed ≡ false → AreSeats past v → AreWished past ws taken → opened_at c v ≡ Some (Opened.Live s)
+pub turn-confirms : (c : ℕ) (note : ReadNote) (past : List Step) (v : Numbers) (s : Seated) (gone : ℕ → Bool) (ws : List Wanted) (taken : ℕ)
+    → Legal past → is_out past ≡ true → note.failed ≡ false → AreSeats past v → AreWished past gone ws taken → opened_at c v ≡ Some (Opened.Live s)
     → pieces_for c (confirms_of v (take taken ws)) ≡ confirm_puts (marks c past) (turn_mark c note past) (seat c past).conn.subs
-turn-confirms c note past v s ws taken l o f a w at =
-    for-conn c v s (marks_at c past) subs (take taken ws) at (a.each c (Opened.Live s) at).0.shows.conn.subs ∙ ap (here subs) (w.out o c)
+turn-confirms c note past v s gone ws taken l o f a w at =
+    for-conn c v s (marks_at c past) subs (take taken ws) at (a.each c (Opened.Live s) at).0.shows.conn.subs ∙ ap (here subs) taken_now
     ∙ go (user_of c (at_ask past)) refl
   where
     subs : List Sub
     subs = (seat c past).conn.subs
+
+    taken_now : wanted_by c (take taken ws) ≡ found_made c past
+    taken_now = let is = a.each c (Opened.Live s) at in live-found c past s gone ws taken o w is.0 is.1
 
     go : (u : Option (List ℕ)) → user_of c (at_ask past) ≡ u
         → here (seat c past).conn.subs (found_made c past) ≡ confirm_puts (marks c past) (turn_mark c note past) (seat c past).conn.subs

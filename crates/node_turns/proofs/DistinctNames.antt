@@ -1,6 +1,6 @@
 -- The subscriptions of a connection have different identifiers, and the streams of each have different names: a plan makes none that is there already.
 use Rattle.std.proofs.Common.{ℕ, ◌+◌, ◌≡◌, ◌==◌, ◌&&◌, Bool, true, false, cond, not, List, [], ◌∷◌, ◌++◌, map, Option, Some, None, length, refl, ap, sym, subst}
-use Rattle.std.proofs.Common.{◌∙◌, arith, bytes_eq, is_none, is_some, leb, append_assoc}
+use Rattle.std.proofs.Common.{◌∙◌, arith, bytes_eq, is_none, leb, append_assoc}
 use Rattle.std.specs.Prelude.{⊤, Result, Ok, Err}
 use Rattle.std.specs.List.{AllByRecursion, filter, find}
 use Rattle.std.proofs.lemmas.List.{append-nil}
@@ -8,7 +8,6 @@ use Rattle.std.proofs.lemmas.Option.{same_Some}
 use Rattle.std.proofs.lemmas.Bool.Decides.{nat_tests}
 use Rattle.std.proofs.lemmas.Slice.Eq.{bytes_eq-Decides}
 use Rattle.cable_base.proofs.Each.{All-append, All-filter}
-use Rattle.cable_json.specs.Commands.{command_of}
 use Rattle.cable_json.specs.declared.commands.Command.TheVariants as command
 use Rattle.cable_json.specs.declared.commands.CommandFault.{CommandFault}
 use Rattle.cable_json.specs.declared.commands.CommandFault.TheVariants as command_fault
@@ -26,14 +25,14 @@ use Rattle.cable_model.specs.declared.plans.Task.TheVariants as task
 use Rattle.cable_model.specs.Connection.{Want, Sub, Conn, wanted, among, without, streamed, changed}
 use Rattle.cable_model.specs.Legal.{Legal}
 use Rattle.cable_model.specs.Limits.{most_subscriptions}
-use Rattle.cable_model.specs.Pieces.{seat, with_put, with_all, with_job, deliver_puts}
+use Rattle.cable_model.specs.Pieces.{seat}
 use Rattle.cable_model.specs.Plans.{Callbacks, sub_named, sub_numbered, names_of, fault_task, subscribe_task, unsubscribe_task, perform_task, row_task}
 use Rattle.cable_model.specs.Plans.{confirm_task, stream_note, new_stream, new_streams, stream_notes, rejection, unless_bad, subscribe_plan, perform_plan}
 use Rattle.cable_model.specs.Plans.{unstopped, plan_for, plan_of}
 use Rattle.cable_model.specs.Steps.{Step}
-use Rattle.cable_model.specs.Wants.{marks, turn_mark, user_of}
 use Rattle.cable_model.proofs.Stored.{HasPlan, has-plan}
 use Rattle.conn_core.specs.Subscriptions.{AreDifferent}
+use Rattle.cable_model.proofs.Entries.{unfinished}
 
 -- ---- names that are all different
 
@@ -52,9 +51,7 @@ different-filter p (name ∷ names) d = go (p name) refl (different-filter p nam
     go false b ih = rw b ih
 
 and-second : (a b : Bool) → (a && not b) ≡ true → b ≡ false
-and-second true true e = absurd cc
-and-second true false e = refl
-and-second false b e = absurd cc
+and-second a b e = grind arith
 
 -- those that are known, and the new ones of those that are asked for
 different-new : (known asked : List (List ℕ)) → AreDifferent known → AreDifferent (known ++ new_streams known asked)
@@ -113,10 +110,7 @@ perform-suits identifier (Ok answer) s k e = (
 
 fault-suits : (r : Callbacks) (user : List ℕ) (f : CommandFault) (k : Conn) → Suits (plan_for r user (fault_task f)).change k
 fault-suits r user command_fault.BadJson k = tt
-fault-suits r user command_fault.UnknownCommand k = tt
-fault-suits r user command_fault.NoIdentifier k = tt
-fault-suits r user command_fault.BadData k = tt
-fault-suits r user command_fault.OutOfMemory k = tt
+fault-suits r user _ k = tt
 
 plan-suits : (r : Callbacks) (user : List ℕ) (k : Conn) (p : Piece) → Suits (plan_of r user k p).change k
 plan-suits r user k (piece.Cmd (Err fault)) = fault-suits r user fault k
@@ -163,13 +157,7 @@ pub record Distinct (k : Conn) : Type 0 where
 
 not-found : (identifier : List ℕ) (subs : List Sub) → find (λ (s : Sub). bytes_eq s.identifier identifier) subs ≡ None → among (ids_of subs) identifier ≡ false
 not-found identifier [] e = refl
-not-found identifier (s ∷ subs) e = go (bytes_eq s.identifier identifier) refl (not-found identifier subs)
-  where
-    go : (b : Bool) → bytes_eq s.identifier identifier ≡ b
-        → (find (λ (t : Sub). bytes_eq t.identifier identifier) subs ≡ None → among (ids_of subs) identifier ≡ false)
-        → among (ids_of (s ∷ subs)) identifier ≡ false
-    go true b ih = let e' = rw b at e in absurd (cc (e'))
-    go false b ih = let e' = rw b at e in rw b (ih e')
+not-found identifier (s ∷ subs) e = grind (arith, not-found identifier subs, e)
 
 ids-append : (xs ys : List Sub) → ids_of (xs ++ ys) ≡ ids_of xs ++ ids_of ys
 ids-append [] ys = refl
@@ -185,33 +173,18 @@ names-append (x ∷ xs) ys = ap (λ zs. x.name ∷ zs) (names-append xs ys)
 
 names-without : (stops : List (List ℕ)) (ws : List Want) → names_of (without stops ws) ≡ unstopped stops (names_of ws)
 names-without stops [] = refl
-names-without stops (w ∷ ws) = go (among stops w.name) refl (names-without stops ws)
-  where
-    go : (b : Bool) → among stops w.name ≡ b → names_of (without stops ws) ≡ unstopped stops (names_of ws)
-        → names_of (without stops (w ∷ ws)) ≡ unstopped stops (names_of (w ∷ ws))
-    go true b ih = rw b ih
-    go false b ih = rw b (ap (λ ns. w.name ∷ ns) ih)
-
-streamed-id : (n : ℕ) (identifier : List ℕ) (stops streams : List (List ℕ)) (s : Sub) → (streamed n identifier stops streams s).identifier ≡ s.identifier
-streamed-id n identifier stops streams s =
-    elim (bytes_eq s.identifier identifier) as (λ b.
-    (cond b (record { number = s.number; identifier = s.identifier; wants = without stops s.wants ++ wanted n streams; due = s.due }) s).identifier
-    ≡ s.identifier) [ true ↦ refl | false ↦ refl ]
+names-without stops (w ∷ ws) = grind (arith, names-without stops ws)
 
 streamed-ids : (n : ℕ) (identifier : List ℕ) (stops streams : List (List ℕ)) (subs : List Sub)
     → ids_of (map (streamed n identifier stops streams) subs) ≡ ids_of subs
 streamed-ids n identifier stops streams [] = refl
-streamed-ids n identifier stops streams (s ∷ subs) =
-    ap (λ i. i ∷ ids_of (map (streamed n identifier stops streams) subs)) (streamed-id n identifier stops streams s)
-    ∙ ap (λ is. s.identifier ∷ is) (streamed-ids n identifier stops streams subs)
+streamed-ids n identifier stops streams (s ∷ subs) = grind (arith, streamed-ids n identifier stops streams subs)
 
 -- the subscriptions of other identifiers
 pub streamed-none : (n : ℕ) (identifier : List ℕ) (stops streams : List (List ℕ)) (subs : List Sub) → among (ids_of subs) identifier ≡ false
     → map (streamed n identifier stops streams) subs ≡ subs
 streamed-none n identifier stops streams [] e = refl
-streamed-none n identifier stops streams (s ∷ subs) e =
-    rw (or-first (bytes_eq s.identifier identifier) (among (ids_of subs) identifier) e)
-    (ap (λ ss. s ∷ ss) (streamed-none n identifier stops streams subs (or-second (bytes_eq s.identifier identifier) (among (ids_of subs) identifier) e)))
+streamed-none n identifier stops streams (s ∷ subs) e = grind (arith, streamed-none n identifier stops streams subs, e)
 
 streamed-named : (n : ℕ) (identifier : List ℕ) (stops streams : List (List ℕ)) (s : Sub) (subs : List Sub)
     → find (λ (t : Sub). bytes_eq t.identifier identifier) subs ≡ Some s
@@ -238,12 +211,7 @@ streamed-named n identifier stops streams s (t ∷ subs) f g d a =
 
 filtered-ids : (p : List ℕ → Bool) (subs : List Sub) → ids_of (filter (λ (s : Sub). p s.identifier) subs) ≡ filter p (ids_of subs)
 filtered-ids p [] = refl
-filtered-ids p (s ∷ subs) = go (p s.identifier) refl (filtered-ids p subs)
-  where
-    go : (b : Bool) → p s.identifier ≡ b → ids_of (filter (λ (t : Sub). p t.identifier) subs) ≡ filter p (ids_of subs)
-        → ids_of (filter (λ (t : Sub). p t.identifier) (s ∷ subs)) ≡ filter p (ids_of (s ∷ subs))
-    go true b ih = rw b (ap (λ is. s.identifier ∷ is) ih)
-    go false b ih = rw b ih
+filtered-ids p (s ∷ subs) = grind (arith, filtered-ids p subs)
 
 changed-distinct : (ch : Change) (place : ℕ) (k : Conn) → Suits ch k → Distinct k → Distinct (changed ch place k)
 changed-distinct change.Nothing place k u d = d
@@ -267,20 +235,6 @@ changed-distinct change.Close place k u d = record { ids = tt; names = tt }
 
 pub distinct : (c : ℕ) (past : List Step) → Legal past → Distinct (seat c past).conn
 distinct c [] l = record { ids = tt; names = tt }
-distinct c (Step.Boot last ∷ past) l = distinct c past l.1
-distinct c (Step.Open d token user ∷ past) l = distinct c past l.1
-distinct c (Step.In d text ∷ past) l =
-    let ih = distinct c past l.1 in
-    elim (d == c) as (λ b. Distinct (cond b (with_put (seat c past) (piece.Cmd (command_of text))) (seat c past)).conn) [ true ↦ ih | false ↦ ih ]
-distinct c (Step.Drop d ∷ past) l =
-    let ih = distinct c past l.1 in
-    elim (d == c) as (λ b. Distinct (cond b (with_put (seat c past) piece.Gone) (seat c past)).conn) [ true ↦ ih | false ↦ ih ]
-distinct c (Step.Stop ∷ past) l =
-    let ih = distinct c past l.1 in
-    elim (is_some (user_of c past)) as (λ b. Distinct (cond b (with_put (seat c past) piece.Restart) (seat c past)).conn) [ true ↦ ih | false ↦ ih ]
-distinct c (Step.Take d ∷ past) l =
-    let ih = distinct c past l.1 in
-    elim (d == c) as (λ b. Distinct (cond b (with_job (seat c past)) (seat c past)).conn) [ true ↦ ih | false ↦ ih ]
 distinct c (Step.Finish d puts plan ∷ past) l = go (d == c) refl (distinct c past l.1)
   where
     go : (b : Bool) → (d == c) ≡ b → Distinct (seat c past).conn → Distinct (seat c (Step.Finish d puts plan ∷ past)).conn
@@ -289,11 +243,4 @@ distinct c (Step.Finish d puts plan ∷ past) l = go (d == c) refl (distinct c p
         let suits : Suits plan.change (seat c past).conn = subst (λ x. Suits plan.change (seat x past).conn) e (finish-suits d puts plan past l) in
         rw b (changed-distinct plan.change (seat c past).taken (seat c past).conn suits ih)
     go false b ih = rw b ih
-distinct c (Step.Ask turn ∷ past) l = distinct c past l.1
-distinct c (Step.Deliver turn note ∷ past) l =
-    let ih = distinct c past l.1 in
-    elim note.failed as (λ b.
-    Distinct (cond b (seat c past)
-    (with_all (seat c past) (deliver_puts (user_of c past) (marks c past) (turn_mark c note past) (seat c past).conn.subs note.rows))).conn)
-    [ true ↦ ih | false ↦ ih ]
-distinct c (Step.Beat now ∷ past) l = distinct c past l.1
+distinct c (e ∷ past) l = subst Distinct (sym (unfinished c e past refl).conn) (distinct c past l.1)

@@ -1,5 +1,5 @@
 -- The names that have a hold are those that the node's journal says.
-use Rattle.std.proofs.Common.{ℕ, ◌≡◌, ◌≢◌, ◌==◌, Bool, true, false, cond, not, ◌||◌, List, [], ◌∷◌, ◌++◌, map, Option, Some, None, refl, ap, sym, subst, ◌∙◌}
+use Rattle.std.proofs.Common.{ℕ, ◌≡◌, ◌≢◌, Bool, true, false, cond, not, ◌||◌, List, [], ◌∷◌, ◌++◌, map, Option, Some, None, refl, ap, sym, subst, ◌∙◌}
 use Rattle.std.proofs.Common.{arith, bytes_eq, is_some, unwrap_or, ℤ}
 use Rattle.std.specs.List.{All, list_any}
 use Rattle.std.specs.List.Sorted.{IsPermutation}
@@ -12,7 +12,6 @@ use Rattle.std.proofs.lemmas.List.Folds.{list_any-append}
 use Rattle.std.proofs.lemmas.List.Sorted.{list_any-IsPermutation}
 use Rattle.std.proofs.lemmas.Map.Text.{is_eq-slice_cmp}
 use Rattle.std.proofs.lemmas.Slice.Eq.{bytes_eq-Decides}
-use Rattle.cable_base.specs.Names.{own_name}
 use Rattle.cable_model.specs.Connection.{Want, Sub, among}
 use Rattle.cable_model.specs.History.{held_wants, held_subs, own_held, held_of, held_by, held_names}
 use Rattle.cable_model.specs.Legal.{Legal}
@@ -30,27 +29,15 @@ use Rattle.node_turns.specs.Held.{AreHeld, holds_of, holds_on, is_on, own_hold, 
 -- ---- lists of names
 
 or-true : (b : Bool) → (b || true) ≡ true
-or-true true = refl
-or-true false = refl
+or-true b = grind arith
 
 same-tests : (a b : Bool) → (a ≡ true → b ≡ true) → (b ≡ true → a ≡ true) → a ≡ b
-same-tests true b f g = sym (f refl)
-same-tests false true f g = g refl
-same-tests false false f g = refl
+same-tests a b f g = grind arith
 
 hash-found : (hash : List ℕ → ℤ) (h : ℤ) (name : List ℕ) (ys : List (List ℕ)) → int_eq (hash name) h ≡ true → among ys name ≡ true
     → contains (map hash ys) h ≡ true
 hash-found hash h name [] e a = absurd (cc (a))
-hash-found hash h name (y ∷ ys) e a = go (bytes_eq y name) refl (hash-found hash h name ys e)
-  where
-    go : (b : Bool) → bytes_eq y name ≡ b → (among ys name ≡ true → contains (map hash ys) h ≡ true) → contains (map hash (y ∷ ys)) h ≡ true
-    go true b ih =
-        let same : y ≡ name = (bytes_eq-Decides y name).0 b in
-        let found : int_eq (hash y) h ≡ true = subst (λ n. int_eq (hash n) h ≡ true) (sym same) e in
-        rw found refl
-    go false b ih =
-        let a' = rw b at a in
-        rw (ih a') (or-true (int_eq (hash y) h))
+hash-found hash h name (y ∷ ys) e a = grind (arith, hash-found hash h name ys e, bytes_eq-Decides y name, e, a)
 
 among-first : (x : List ℕ) (xs : List (List ℕ)) → among (x ∷ xs) x ≡ true
 among-first x xs = rw ((bytes_eq-Decides x x).1 refl) refl
@@ -58,11 +45,10 @@ among-first x xs = rw ((bytes_eq-Decides x x).1 refl) refl
 hashes-within : (hash : List ℕ → ℤ) (h : ℤ) (xs ys : List (List ℕ)) → ((name : List ℕ) → among xs name ≡ true → among ys name ≡ true)
     → contains (map hash xs) h ≡ true → contains (map hash ys) h ≡ true
 hashes-within hash h [] ys f a = absurd (cc (a))
-hashes-within hash h (x ∷ xs) ys f a = go (int_eq (hash x) h) refl (hashes-within hash h xs ys (λ name b. f name (rw b (or-true (bytes_eq x name)))))
-  where
-    go : (b : Bool) → int_eq (hash x) h ≡ b → (contains (map hash xs) h ≡ true → contains (map hash ys) h ≡ true) → contains (map hash ys) h ≡ true
-    go true b ih = hash-found hash h x ys b (f x (among-first x xs))
-    go false b ih = let a' = rw b at a in ih a'
+hashes-within hash h (x ∷ xs) ys f a =
+    let here = f x (among-first x xs) in
+    let rest = hashes-within hash h xs ys (λ name b. f name (rw b (or-true (bytes_eq x name)))) in
+    grind (arith, hash-found hash h x ys, here, rest, a)
 
 -- names that are the same as a set have the same hashes
 same-hashes : (hash : List ℕ → ℤ) (h : ℤ) (xs ys : List (List ℕ)) → ((name : List ℕ) → among xs name ≡ among ys name)
@@ -83,25 +69,12 @@ some-append (x ∷ xs) ys = refl
 own-name : (c : ℕ) (name : List ℕ) (user : Option (List ℕ)) (mark : Option ℕ) → some (own_hold c name user mark) ≡ among (own_held user mark) name
 own-name c name None mark = refl
 own-name c name (Some user) None = refl
-own-name c name (Some user) (Some mark) =
-    elim (bytes_eq (own_name user) name) as (λ b.
-    some (cond b (record { conn = record { 0 = c }; sub = record { 0 = 0 }; want = record { 0 = 0 }; mark = record { 0 = mark } } ∷ []) []) ≡ (b || false))
-    [ true ↦ refl | false ↦ refl ]
+own-name c name (Some user) (Some mark) = grind arith
 
 stream-names : (c : ℕ) (name : List ℕ) (ms : List Mark) (s : ℕ) (ws : List Want)
     → some (stream_holds c name (record { 0 = s }) (map (marked_want (λ w. mark_of w ms)) ws)) ≡ among (held_wants ms ws) name
 stream-names c name ms s [] = refl
-stream-names c name ms s (w ∷ ws) = go (bytes_eq w.name name) refl (mark_of w.number ms) refl (stream-names c name ms s ws)
-  where
-    rest : List Hold
-    rest = stream_holds c name (record { 0 = s }) (map (marked_want (λ v. mark_of v ms)) ws)
-
-    go : (b : Bool) → bytes_eq w.name name ≡ b → (o : Option ℕ) → mark_of w.number ms ≡ o → some rest ≡ among (held_wants ms ws) name
-        → some (stream_holds c name (record { 0 = s }) (map (marked_want (λ v. mark_of v ms)) (w ∷ ws))) ≡ among (held_wants ms (w ∷ ws)) name
-    go true b None o ih = rw (b, o) ih
-    go true b (Some mark) o ih = rw (b, o, b) refl
-    go false b None o ih = rw (b, o) ih
-    go false b (Some mark) o ih = rw (b, o, b) ih
+stream-names c name ms s (w ∷ ws) = grind (arith, stream-names c name ms s ws)
 
 sub-names : (c : ℕ) (name : List ℕ) (ms : List Mark) (subs : List Sub)
     → some (sub_holds c name (map (marked_sub (λ w. mark_of w ms)) subs)) ≡ among (held_subs ms subs) name
@@ -124,19 +97,12 @@ names-of c past name =
     own = own_hold c name (user_of c past) (mark_of 0 (marks c past))
 
     own-part : some (cond (seat c past).conn.over [] own) ≡ among (cond (seat c past).conn.over [] (own_held (user_of c past) (mark_of 0 (marks c past)))) name
-    own-part = elim (seat c past).conn.over as (λ b. some (cond b [] own) ≡ among (cond b [] (own_held (user_of c past) (mark_of 0 (marks c past)))) name) [
-      | true ↦ refl
-      | false ↦ own-name c name (user_of c past) (mark_of 0 (marks c past))
-    ]
+    own-part = grind (arith, own-name c name (user_of c past) (mark_of 0 (marks c past)))
 
 -- ---- connections that were never opened hold nothing
 
 no-marks : (c w : ℕ) (past : List Step) → was_opened c past ≡ false → mark_of w (marks c past) ≡ None
-no-marks c w past n = go (mark_of w (marks c past)) refl
-  where
-    go : (o : Option ℕ) → mark_of w (marks c past) ≡ o → mark_of w (marks c past) ≡ None
-    go None o = o
-    go (Some m) o = absurd (cc (marked-opened c w m past o, n))
+no-marks c w past n = grind (arith, λ (m : ℕ). marked-opened c w m past)
 
 no-wants : (ms : List Mark) (ws : List Want) → ((w : ℕ) → mark_of w ms ≡ None) → held_wants ms ws ≡ []
 no-wants ms [] n = refl
@@ -147,9 +113,7 @@ no-subs ms [] n = refl
 no-subs ms (s ∷ subs) n = rw (no-wants ms s.wants n, no-subs ms subs n) refl
 
 no-own : (over : Bool) (user : Option (List ℕ)) → cond over [] (own_held user None) ≡ []
-no-own true user = refl
-no-own false None = refl
-no-own false (Some user) = refl
+no-own over user = grind arith
 
 opened-where : (c : ℕ) (past : List Step) (name : List ℕ) → among (held_of c past) name ≡ true → was_opened c past ≡ true
 opened-where c past name a = go (was_opened c past) refl
@@ -172,26 +136,8 @@ name-held : (c : ℕ) (past more : List Step) (name : List ℕ) → was_opened c
     → among (held_by past more) name ≡ true
 name-held c past [] name o a = absurd (cc (o))
 name-held c past (Step.Open d token user ∷ more) name o a =
-    list_any-append (λ n. bytes_eq n name) (held_of d past) (held_by past more) ∙ go (d == c) refl (λ o'. name-held c past more name o' a)
-  where
-    go : (b : Bool) → (d == c) ≡ b → (was_opened c more ≡ true → among (held_by past more) name ≡ true)
-        → (among (held_of d past) name || among (held_by past more) name) ≡ true
-    go true b ih =
-        let same : c ≡ d = grind (arith, nat_tests) in
-        let here : among (held_of d past) name ≡ true = subst (λ e. among (held_of e past) name ≡ true) same a in
-        ap (λ t. t || among (held_by past more) name) here
-    go false b ih =
-        let o' = rw b at o in
-        ap (λ t. among (held_of d past) name || t) (ih o') ∙ or-true (among (held_of d past) name)
-name-held c past (Step.Boot last ∷ more) name o a = name-held c past more name o a
-name-held c past (Step.In d text ∷ more) name o a = name-held c past more name o a
-name-held c past (Step.Drop d ∷ more) name o a = name-held c past more name o a
-name-held c past (Step.Stop ∷ more) name o a = name-held c past more name o a
-name-held c past (Step.Take d ∷ more) name o a = name-held c past more name o a
-name-held c past (Step.Finish d puts plan ∷ more) name o a = name-held c past more name o a
-name-held c past (Step.Ask turn ∷ more) name o a = name-held c past more name o a
-name-held c past (Step.Deliver turn note ∷ more) name o a = name-held c past more name o a
-name-held c past (Step.Beat now ∷ more) name o a = name-held c past more name o a
+    list_any-append (λ n. bytes_eq n name) (held_of d past) (held_by past more) ∙ grind (arith, nat_tests, name-held c past more name, a, o)
+name-held c past (_ ∷ more) name o a = name-held c past more name o a
 
 -- a name that is held is held by a connection
 holder-of : (past more : List Step) (name : List ℕ) → among (held_by past more) name ≡ true → (c : ℕ) × (among (held_of c past) name ≡ true)
@@ -205,15 +151,7 @@ holder-of past (Step.Open d token user ∷ more) name a = go (among (held_of d p
         let either : (among (held_of d past) name || among (held_by past more) name) ≡ true =
         sym (list_any-append (λ n. bytes_eq n name) (held_of d past) (held_by past more)) ∙ a in
         ih (sym (ap (λ t. t || among (held_by past more) name) b) ∙ either)
-holder-of past (Step.Boot last ∷ more) name a = holder-of past more name a
-holder-of past (Step.In d text ∷ more) name a = holder-of past more name a
-holder-of past (Step.Drop d ∷ more) name a = holder-of past more name a
-holder-of past (Step.Stop ∷ more) name a = holder-of past more name a
-holder-of past (Step.Take d ∷ more) name a = holder-of past more name a
-holder-of past (Step.Finish d puts plan ∷ more) name a = holder-of past more name a
-holder-of past (Step.Ask turn ∷ more) name a = holder-of past more name a
-holder-of past (Step.Deliver turn note ∷ more) name a = holder-of past more name a
-holder-of past (Step.Beat now ∷ more) name a = holder-of past more name a
+holder-of past (_ ∷ more) name a = holder-of past more name a
 
 -- ---- the names of the map
 
@@ -243,12 +181,7 @@ held-as past m name h = same-tests (some (holds_at m name)) (among (held_names p
 
 among-as : (name : List ℕ) (names : List (List ℕ)) → list_any (eq_by_cmp (slice_cmp nat_cmp) name) names ≡ among names name
 among-as name [] = refl
-among-as name (x ∷ xs) =
-    let here : eq_by_cmp (slice_cmp nat_cmp) name x ≡ bytes_eq x name =
-    is_eq-slice_cmp name x
-    ∙ same-tests (bytes_eq name x) (bytes_eq x name) (λ e. (bytes_eq-Decides x name).1 (sym ((bytes_eq-Decides name x).0 e)))
-    (λ e. (bytes_eq-Decides name x).1 (sym ((bytes_eq-Decides x name).0 e))) in
-    ap (λ b. b || list_any (eq_by_cmp (slice_cmp nat_cmp) name) xs) here ∙ ap (λ b. bytes_eq x name || b) (among-as name xs)
+among-as name (x ∷ xs) = rw (is_eq-slice_cmp name x) (grind (arith, among-as name xs, bytes_eq-Decides x name, bytes_eq-Decides name x))
 
 held-among : (P : List ℕ → Type 0) (names : List (List ℕ)) (name : List ℕ) → All P names → among names name ≡ true → P name
 held-among P [] name h a = absurd (cc (a))

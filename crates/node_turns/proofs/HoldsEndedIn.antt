@@ -36,25 +36,10 @@ any-alike p q (x ∷ xs) h = rw (h x, any-alike p q xs h) refl
 -- where one test passes only with another
 any-through : {A : Type 0} (p q : A → Bool) (xs : List A) → ((x : A) → p x ≡ true → q x ≡ true) → list_any p xs ≡ true → list_any q xs ≡ true
 any-through p q [] h t = absurd cc
-any-through p q (x ∷ xs) h t = by-test (p x) refl (any-through p q xs h)
-  where
-    passes : (b : Bool) → (true || b) ≡ true
-    passes b = refl
-
-    later : (a b : Bool) → b ≡ true → (a || b) ≡ true
-    later true b e = refl
-    later false b e = e
-
-    by-test : (b : Bool) → p x ≡ b → (list_any p xs ≡ true → list_any q xs ≡ true) → (q x || list_any q xs) ≡ true
-    by-test true is ih = ap (λ b. b || list_any q xs) (h x is)
-    by-test false is ih = let t' = rw is at t in later (q x) (list_any q xs) (ih t')
+any-through p q (x ∷ xs) h t = grind (arith, any-through p q xs h, h x)
 
 any-none : {A : Type 0} (p q : A → Bool) (xs : List A) → ((x : A) → p x ≡ true → q x ≡ true) → list_any q xs ≡ false → list_any p xs ≡ false
-any-none p q xs h f = by-test (list_any p xs) refl
-  where
-    by-test : (b : Bool) → list_any p xs ≡ b → list_any p xs ≡ false
-    by-test true is = let t = any-through p q xs h is in absurd (cc (t, f))
-    by-test false is = is
+any-none p q xs h f = grind (arith, any-through p q xs h)
 
 any-flat : {A B : Type 0} (p : B → Bool) (f : A → List B) (xs : List A) → list_any p (flat_map f xs) ≡ list_any (λ x. list_any p (f x)) xs
 any-flat p f [] = refl
@@ -62,21 +47,14 @@ any-flat p f (x ∷ xs) = list_any-append p (f x) (flat_map f xs) ∙ ap (λ b. 
 
 any-filter : {A : Type 0} (k p : A → Bool) (xs : List A) → list_any p (filter k xs) ≡ list_any (λ x. k x && p x) xs
 any-filter k p [] = refl
-any-filter {A} k p (x ∷ xs) = by-test (k x) refl (any-filter k p xs)
-  where
-    by-test : (b : Bool) → k x ≡ b → list_any p (filter k xs) ≡ list_any (λ x. k x && p x) xs
-        → list_any p (filter k (x ∷ xs)) ≡ list_any (λ x. k x && p x) (x ∷ xs)
-    by-test true is ih = rw is (ap (λ b. p x || b) ih)
-    by-test false is ih = rw is ih
+any-filter k p (x ∷ xs) = grind (arith, any-filter k p xs)
 
 any-and : {A : Type 0} (b : Bool) (p : A → Bool) (xs : List A) → list_any (λ x. b && p x) xs ≡ (b && list_any p xs)
-any-and true p xs = refl
-any-and false p [] = refl
-any-and false p (x ∷ xs) = any-and false p xs
+any-and b p [] = grind arith
+any-and b p (x ∷ xs) = grind (arith, any-and b p xs)
 
 and-right : (a b : Bool) → (a && b) ≡ true → b ≡ true
-and-right true b e = e
-and-right false b e = absurd cc
+and-right a b e = grind arith
 
 -- ---- whose holds they are
 
@@ -103,8 +81,7 @@ pub self : (n : ℕ) → (n == n) ≡ true
 self n = grind (arith, nat_tests)
 
 pub or-later : (a b : Bool) → b ≡ true → (a || b) ≡ true
-or-later true b e = refl
-or-later false b e = e
+or-later a b e = grind arith
 
 -- each hold of a subscription's streams is one of a want that has the name there
 each-held : (c : ℕ) (name : List ℕ) (sub : SubNo) (es : List StreamEntry)
@@ -164,8 +141,7 @@ all-or-none false [] = refl
 all-or-none false (x ∷ xs) = ap (λ ys. x ∷ ys) (all-or-none false xs)
 
 or-nothing : (a : Bool) → ((a && true) || false) ≡ a
-or-nothing true = refl
-or-nothing false = refl
+or-nothing a = grind arith
 
 -- no want stands in two subscriptions, so each hold ends with its own
 pub kept-are : (c : ℕ) (name : List ℕ) (ends : Subscription → Bool) (subs : List Subscription) → WantsApart subs
@@ -190,14 +166,13 @@ kept-are c name ends (s ∷ ss) a =
         ∙ all-or-none (ends s) (stream_holds c name s.number s.streams)
 
     not-own : (h : Hold) → list_any (held_in name h.want) ss ≡ true → held_in name h.want s ≡ false
-    not-own h t = by-test (held_in name h.want s) refl
-      where
-        by-test : (b : Bool) → held_in name h.want s ≡ b → held_in name h.want s ≡ false
-        by-test false is = is
-        by-test true is =
-            let none = a.0 h.want (held-wants name h.want s is) in
-            let some = any-through (held_in name h.want) (λ (x : Subscription). has_want h.want x.streams) ss (λ x u. held-wants name h.want x u) t in
-            absurd (cc (none, some))
+    not-own h t =
+        grind (
+          arith,
+          held-wants name h.want s,
+          a.0 h.want,
+          any-through (held_in name h.want) (λ (x : Subscription). has_want h.want x.streams) ss (λ x u. held-wants name h.want x u) t,
+        )
 
     other : (h : Hold) → list_any (held_in name h.want) ss ≡ true → not (ends_in name ends (s ∷ ss) h.want) ≡ not (ends_in name ends ss h.want)
     other h t =
@@ -235,12 +210,7 @@ stopped-ended identifier stops subs name want =
   where
     named-so : (e : StreamEntry)
         → (among stops e.name && (bytes_eq e.name name && (e.want.0 == want.0))) ≡ (among stops name && (bytes_eq e.name name && (e.want.0 == want.0)))
-    named-so e = by-name (bytes_eq e.name name) refl
-      where
-        by-name : (b : Bool) → bytes_eq e.name name ≡ b
-            → (among stops e.name && (bytes_eq e.name name && (e.want.0 == want.0))) ≡ (among stops name && (bytes_eq e.name name && (e.want.0 == want.0)))
-        by-name true is = ap (λ n. among stops n && (bytes_eq e.name name && (e.want.0 == want.0))) ((bytes_eq-Decides e.name name).0 is)
-        by-name false is = rw is (and-false (among stops e.name) ∙ sym (and-false (among stops name)))
+    named-so e = grind (arith, bytes_eq-Decides e.name name)
 
     by-test : (b : Bool) (s : Subscription) → list_any (named_as name want) (cond b (named_stops stops s) []) ≡ ((b && among stops name) && held_in name want s)
     by-test true s =
@@ -261,25 +231,12 @@ all-ended subs name want =
 -- a stream that was just wanted has no hold
 none-wanted : (c : ℕ) (name : List ℕ) (sub : SubNo) (first : ℕ) (names : List (List ℕ)) → stream_holds c name sub (wanted_from first names) ≡ []
 none-wanted c name sub first [] = refl
-none-wanted c name sub first (x ∷ xs) = by-name (bytes_eq x name) (none-wanted c name sub (first + 1) xs)
-  where
-    by-name : (b : Bool) → stream_holds c name sub (wanted_from (first + 1) xs) ≡ []
-        → cond b ([] ++ stream_holds c name sub (wanted_from (first + 1) xs)) (stream_holds c name sub (wanted_from (first + 1) xs)) ≡ []
-    by-name true ih = ih
-    by-name false ih = ih
+none-wanted c name sub first (x ∷ xs) = grind (arith, none-wanted c name sub (first + 1) xs)
 
 streams-append : (c : ℕ) (name : List ℕ) (sub : SubNo) (xs ys : List StreamEntry)
     → stream_holds c name sub (xs ++ ys) ≡ stream_holds c name sub xs ++ stream_holds c name sub ys
 streams-append c name sub [] ys = refl
-streams-append c name sub (x ∷ xs) ys = by-name (bytes_eq x.name name) (streams-append c name sub xs ys)
-  where
-    by-name : (b : Bool) → stream_holds c name sub (xs ++ ys) ≡ stream_holds c name sub xs ++ stream_holds c name sub ys
-        → cond b (marked_hold c sub x.want x.mark ++ stream_holds c name sub (xs ++ ys)) (stream_holds c name sub (xs ++ ys))
-        ≡ cond b (marked_hold c sub x.want x.mark ++ stream_holds c name sub xs) (stream_holds c name sub xs) ++ stream_holds c name sub ys
-    by-name true ih =
-        ap (λ (hs : List Hold). marked_hold c sub x.want x.mark ++ hs) ih
-        ∙ sym (append_assoc (marked_hold c sub x.want x.mark) (stream_holds c name sub xs) (stream_holds c name sub ys))
-    by-name false ih = ih
+streams-append c name sub (x ∷ xs) ys = grind (arith, streams-append c name sub xs ys, append_assoc)
 
 subs-append : (c : ℕ) (name : List ℕ) (xs ys : List Subscription) → sub_holds c name (xs ++ ys) ≡ sub_holds c name xs ++ sub_holds c name ys
 subs-append c name [] ys = refl
@@ -296,37 +253,18 @@ added-holds c name sub identifier first streams subs =
 pub removed-holds : (c : ℕ) (name : List ℕ) (identifier : List ℕ) (subs : List Subscription)
     → sub_holds c name (removed identifier subs) ≡ kept_holds c name (has_identifier identifier) subs
 removed-holds c name identifier [] = refl
-removed-holds c name identifier (s ∷ ss) = by-test (has_identifier identifier s) refl (removed-holds c name identifier ss)
-  where
-    by-test : (b : Bool) → has_identifier identifier s ≡ b → sub_holds c name (removed identifier ss) ≡ kept_holds c name (has_identifier identifier) ss
-        → sub_holds c name (removed identifier (s ∷ ss)) ≡ kept_holds c name (has_identifier identifier) (s ∷ ss)
-    by-test true is ih = rw is ih
-    by-test false is ih = rw is (ap (λ (hs : List Hold). stream_holds c name s.number s.streams ++ hs) ih)
+removed-holds c name identifier (s ∷ ss) = grind (arith, removed-holds c name identifier ss)
 
 -- the streams of the name stop, or none of them
 stopped-holds : (c : ℕ) (name : List ℕ) (sub : SubNo) (stops : List (List ℕ)) (es : List StreamEntry)
     → stream_holds c name sub (stopped stops es) ≡ cond (among stops name) [] (stream_holds c name sub es)
-stopped-holds c name sub stops [] = elim (among stops name) as (λ (b : Bool). ◌≡◌ {A = List Hold} [] (cond b [] [])) [ true ↦ refl | false ↦ refl ]
-stopped-holds c name sub stops (e ∷ es) =
-    by-name (bytes_eq e.name name) refl (among stops e.name) refl (among stops name) refl (stopped-holds c name sub stops es)
-  where
-    by-name : (n : Bool) → bytes_eq e.name name ≡ n → (b : Bool) → among stops e.name ≡ b → (a : Bool) → among stops name ≡ a
-        → stream_holds c name sub (stopped stops es) ≡ cond (among stops name) [] (stream_holds c name sub es)
-        → stream_holds c name sub (stopped stops (e ∷ es)) ≡ cond (among stops name) [] (stream_holds c name sub (e ∷ es))
-    by-name true n true b true a ih = let ih' = rw a at ih in rw (b, a) ih'
-    by-name true n false b false a ih = let ih' = rw a at ih in rw (b, a, n) (ap (λ (hs : List Hold). marked_hold c sub e.want e.mark ++ hs) ih')
-    by-name true n true b false a ih =
-        let same : among stops e.name ≡ among stops name = ap (among stops) ((bytes_eq-Decides e.name name).0 n) in absurd (cc (same, a, b))
-    by-name true n false b true a ih =
-        let same : among stops e.name ≡ among stops name = ap (among stops) ((bytes_eq-Decides e.name name).0 n) in absurd (cc (same, a, b))
-    by-name false n true b a a' ih = rw (b, n) ih
-    by-name false n false b a a' ih = rw (b, n) ih
+stopped-holds c name sub stops [] = grind arith
+stopped-holds c name sub stops (e ∷ es) = grind (arith, stopped-holds c name sub stops es, bytes_eq-Decides e.name name)
 
 pub restreamed-holds : (c : ℕ) (name : List ℕ) (identifier : List ℕ) (stops streams : List (List ℕ)) (first : ℕ) (subs : List Subscription)
     → sub_holds c name (restreamed identifier stops streams first subs) ≡ kept_holds c name (stops_in identifier stops name) subs
 restreamed-holds c name identifier stops streams first [] = refl
-restreamed-holds c name identifier stops streams first (s ∷ ss) =
-    by-test (has_identifier identifier s) refl (restreamed-holds c name identifier stops streams first ss)
+restreamed-holds c name identifier stops streams first (s ∷ ss) = grind (arith, restreamed-holds c name identifier stops streams first ss, now)
   where
     now : stream_holds c name s.number (stopped stops s.streams ++ wanted_from first streams)
         ≡ cond (among stops name) [] (stream_holds c name s.number s.streams)
@@ -334,11 +272,3 @@ restreamed-holds c name identifier stops streams first (s ∷ ss) =
         streams-append c name s.number (stopped stops s.streams) (wanted_from first streams)
         ∙ (ap (λ (hs : List Hold). stream_holds c name s.number (stopped stops s.streams) ++ hs) (none-wanted c name s.number first streams)
         ∙ (append-nil (stream_holds c name s.number (stopped stops s.streams)) ∙ stopped-holds c name s.number stops s.streams))
-
-    by-test : (b : Bool) → has_identifier identifier s ≡ b
-        → sub_holds c name (restreamed identifier stops streams first ss) ≡ kept_holds c name (stops_in identifier stops name) ss
-        → sub_holds c name (restreamed identifier stops streams first (s ∷ ss)) ≡ kept_holds c name (stops_in identifier stops name) (s ∷ ss)
-    by-test true is ih =
-        rw is (ap (λ (hs : List Hold). hs ++ sub_holds c name (restreamed identifier stops streams first ss)) now
-        ∙ ap (λ (hs : List Hold). cond (among stops name) [] (stream_holds c name s.number s.streams) ++ hs) ih)
-    by-test false is ih = rw is (ap (λ (hs : List Hold). stream_holds c name s.number s.streams ++ hs) ih)

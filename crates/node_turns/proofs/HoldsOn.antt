@@ -42,15 +42,8 @@ holds-with m q (h ∷ hs) name =
 
 pub holds-without : (m : HoldMap) (q : List ℕ) (conn : ConnNo) (want : WantNo) (name : List ℕ)
     → holds_at (without_at m q conn want) name ≡ filter (λ h. not (bytes_eq q name && is_of conn want h)) (holds_at m name)
-holds-without m q conn want name = holds-with m q (without conn want (holds_at m q)) name ∙ by-name (bytes_eq q name) refl
-  where
-    by-name : (b : Bool) → bytes_eq q name ≡ b
-        → cond (bytes_eq q name) (without conn want (holds_at m q)) (holds_at m name)
-        ≡ filter (λ h. not (bytes_eq q name && is_of conn want h)) (holds_at m name)
-    by-name true is =
-        let same : q ≡ name = (bytes_eq-Decides q name).0 is in
-        rw is (ap (λ n. without conn want (holds_at m n)) same)
-    by-name false is = rw is (sym (filter-every (holds_at m name)))
+holds-without m q conn want name =
+    holds-with m q (without conn want (holds_at m q)) name ∙ grind (arith, bytes_eq-Decides q name, filter-every (holds_at m name))
 
 -- ---- of a connection
 
@@ -63,20 +56,10 @@ abbrev pub ended : List NamedWant → List ℕ → WantNo → Bool
 ended ns name want = list_any (named_as name want) ns
 
 swapped : (a b : ℕ) → (a == b) ≡ (b == a)
-swapped a b = by-test (a == b) refl (b == a) refl
-  where
-    by-test : (x : Bool) → (a == b) ≡ x → (y : Bool) → (b == a) ≡ y → (a == b) ≡ (b == a)
-    by-test true e true f = rw (e, f) refl
-    by-test false e false f = rw (e, f) refl
-    by-test true e false f = grind (arith, nat_tests)
-    by-test false e true f = grind (arith, nat_tests)
+swapped a b = grind (arith, nat_tests)
 
 own-part : (name-is on want-is : Bool) → (not (name-is && (on && want-is)) && on) ≡ (on && not (name-is && want-is))
-own-part true true true = refl
-own-part true true false = refl
-own-part true false w = refl
-own-part false true w = refl
-own-part false false w = refl
+own-part name-is on want-is = grind arith
 
 one-ended : (c : ℕ) (n : NamedWant) (m : HoldMap) (name : List ℕ)
     → holds_on c (holds_at (without_at m n.0 (conn_of c) n.1) name) ≡ filter (λ h. not (named_as name h.want n)) (holds_on c (holds_at m name))
@@ -89,8 +72,7 @@ one-ended c n m name =
     ∙ sym (filter-twice (is_on c) (λ (h : Hold). not (named_as name h.want n)) (holds_at m name))))
 
 both-not : (a b : Bool) → (not a && not b) ≡ not (a || b)
-both-not true b = refl
-both-not false b = refl
+both-not a b = grind arith
 
 -- those of the connection's holds are left whose want isn't among those that end
 pub holds-ended : (c : ℕ) (ns : List NamedWant) (m : HoldMap) (name : List ℕ)
@@ -115,9 +97,7 @@ one-other c d n m name other =
   where
     by-conn : (h : Hold) (x : Bool) → (h.conn.0 == c) ≡ x → (y : Bool) → (h.conn.0 == d) ≡ y
         → (not (bytes_eq n.0 name && is_of (conn_of d) n.1 h) && is_on c h) ≡ is_on c h
-    by-conn h true e true f = let same : (d == c) ≡ true = grind (arith, nat_tests) in absurd (cc (same, other))
-    by-conn h true e false f = rw (e, f) (elim (bytes_eq n.0 name) as (λ b. (not (b && false) && true) ≡ true) [ true ↦ refl | false ↦ refl ])
-    by-conn h false e y f = rw e (elim (not (bytes_eq n.0 name && is_of (conn_of d) n.1 h)) as (λ b. (b && false) ≡ false) [ true ↦ refl | false ↦ refl ])
+    by-conn h x e y f = grind (arith, nat_tests)
 
 pub holds-others : (c d : ℕ) (ns : List NamedWant) (m : HoldMap) (name : List ℕ) → (d == c) ≡ false
     → holds_on c (holds_at (without_all d ns m) name) ≡ holds_on c (holds_at m name)

@@ -1,13 +1,11 @@
 -- The holds of a journal, where an entry neither ends nor places one.
 use Rattle.std.proofs.Common.{◌≡◌, ℕ, ◌==◌, Bool, true, false, cond, ◌||◌, List, [], ◌∷◌, ◌++◌, map, Option, Some, None, refl, sym, ap, subst, ◌∙◌, arith}
-use Rattle.std.proofs.Common.{is_some, unwrap_or}
+use Rattle.std.proofs.Common.{unwrap_or}
 use Rattle.std.proofs.lemmas.Bool.Decides.{nat_tests}
 use Rattle.std.specs.FinMap as maps
 use Rattle.std.specs.Ordering.{nat_cmp}
 use Rattle.std.specs.Cmp.Lexicographic.{slice_cmp}
-use Rattle.cable_json.specs.Commands.{command_of}
 use Rattle.cable_model.specs.declared.journals.ReadNote.{ReadNote}
-use Rattle.cable_model.specs.declared.pieces.Piece.TheVariants as piece
 use Rattle.cable_model.specs.Connection.{Conn}
 use Rattle.cable_model.specs.Legal.{Legal}
 use Rattle.cable_model.specs.Pieces.{seat, unseated, with_put, with_all, with_job, deliver_puts}
@@ -23,6 +21,7 @@ use Rattle.node_seats.proofs.Onward.{leaves-other}
 use Rattle.subscriber_map.specs.declared.holding.Hold.{Hold}
 use Rattle.subscriber_map.specs.HoldMaps.{HoldMap, holds_at}
 use Rattle.node_turns.specs.Held.{own_hold, sub_holds, holds_of, holds_on, AreHeld, is_steady}
+use Rattle.cable_model.proofs.Entries.{unfinished}
 
 -- what the holds of a connection are read from
 abbrev pub holds_read : ℕ → Conn → Option (List ℕ) → List Mark → List ℕ → List Hold
@@ -52,36 +51,9 @@ held-boot last c name = ap (λ (o : Option (List Hold)). holds_on c (unwrap_or o
 steady : (c : ℕ) (e : Step) (past : List Step) → is_steady e ≡ true → Stays c past (e ∷ past)
 steady c (Step.Boot last) past is = absurd cc
 steady c (Step.Open d token user) past is = absurd cc
-steady c (Step.In d text) past is =
-    record {
-      conn = elim (d == c) as (λ b. (cond b (with_put (seat c past) (piece.Cmd (command_of text))) (seat c past)).conn ≡ (seat c past).conn)
-          [ true ↦ refl | false ↦ refl ];
-      user = refl;
-      marked = refl;
-    }
-steady c (Step.Drop d) past is =
-    record {
-      conn = elim (d == c) as (λ b. (cond b (with_put (seat c past) piece.Gone) (seat c past)).conn ≡ (seat c past).conn) [ true ↦ refl | false ↦ refl ];
-      user = refl;
-      marked = refl;
-    }
-steady c Step.Stop past is =
-    record {
-      conn = elim (is_some (user_of c past)) as (λ b. (cond b (with_put (seat c past) piece.Restart) (seat c past)).conn ≡ (seat c past).conn)
-          [ true ↦ refl | false ↦ refl ];
-      user = refl;
-      marked = refl;
-    }
-steady c (Step.Take d) past is =
-    record {
-      conn = elim (d == c) as (λ b. (cond b (with_job (seat c past)) (seat c past)).conn ≡ (seat c past).conn) [ true ↦ refl | false ↦ refl ];
-      user = refl;
-      marked = refl;
-    }
 steady c (Step.Finish d puts plan) past is = absurd cc
-steady c (Step.Ask turn) past is = record { conn = refl; user = refl; marked = refl }
 steady c (Step.Deliver turn note) past is = absurd cc
-steady c (Step.Beat now) past is = record { conn = refl; user = refl; marked = refl }
+steady c e past is = record { conn = (unfinished c e past refl).conn; user = refl; marked = refl }
 
 pub held-steady : (e : Step) (past : List Step) (m : HoldMap) → is_steady e ≡ true → AreHeld past m → AreHeld (e ∷ past) m
 held-steady e past m is = all-stay past (e ∷ past) m (λ c. steady c e past is)
@@ -99,8 +71,7 @@ held-missed turn note past m failed = all-stay past (Step.Deliver turn note ∷ 
 -- ---- an Open
 
 or-second : (a b : Bool) → (a || b) ≡ false → b ≡ false
-or-second false b h = h
-or-second true b h = absurd cc
+or-second a b h = grind arith
 
 unopened-before : (c d : ℕ) (token : List ℕ) (user : Option (List ℕ)) (past : List Step) → is_opened c (Step.Open d token user ∷ past) ≡ false
     → is_opened c past ≡ false
@@ -110,14 +81,7 @@ unopened-at_ask : (c : ℕ) (past : List Step) → is_opened c past ≡ false �
 unopened-at_ask c [] h = h
 unopened-at_ask c (Step.Ask turn ∷ past) h = h
 unopened-at_ask c (Step.Open d token user ∷ past) h = unopened-at_ask c past (unopened-before c d token user past h)
-unopened-at_ask c (Step.Boot last ∷ past) h = unopened-at_ask c past h
-unopened-at_ask c (Step.In d text ∷ past) h = unopened-at_ask c past h
-unopened-at_ask c (Step.Drop d ∷ past) h = unopened-at_ask c past h
-unopened-at_ask c (Step.Stop ∷ past) h = unopened-at_ask c past h
-unopened-at_ask c (Step.Take d ∷ past) h = unopened-at_ask c past h
-unopened-at_ask c (Step.Finish d puts plan ∷ past) h = unopened-at_ask c past h
-unopened-at_ask c (Step.Deliver turn note ∷ past) h = unopened-at_ask c past h
-unopened-at_ask c (Step.Beat now ∷ past) h = unopened-at_ask c past h
+unopened-at_ask c (_ ∷ past) h = unopened-at_ask c past h
 
 -- one that was never opened has no marks
 pub unopened-marks : (c : ℕ) (past : List Step) → is_opened c past ≡ false → marks c past ≡ []
@@ -126,14 +90,7 @@ unopened-marks c (Step.Deliver turn note ∷ past) h =
     let none = unopened-user c (at_ask past) (unopened-at_ask c past h) in
     ap (λ (ms : List Mark). ms ++ turn_mark c note past) (unopened-marks c past h) ∙ ap (λ (u : Option (List ℕ)). marked u (made c (at_ask past)) note) none
 unopened-marks c (Step.Open d token user ∷ past) h = unopened-marks c past (unopened-before c d token user past h)
-unopened-marks c (Step.Ask turn ∷ past) h = unopened-marks c past h
-unopened-marks c (Step.Boot last ∷ past) h = unopened-marks c past h
-unopened-marks c (Step.In d text ∷ past) h = unopened-marks c past h
-unopened-marks c (Step.Drop d ∷ past) h = unopened-marks c past h
-unopened-marks c (Step.Stop ∷ past) h = unopened-marks c past h
-unopened-marks c (Step.Take d ∷ past) h = unopened-marks c past h
-unopened-marks c (Step.Finish d puts plan ∷ past) h = unopened-marks c past h
-unopened-marks c (Step.Beat now ∷ past) h = unopened-marks c past h
+unopened-marks c (_ ∷ past) h = unopened-marks c past h
 
 -- a connection that is opened holds nothing yet
 none-held : (c : ℕ) (past : List Step) (user : Option (List ℕ)) (name : List ℕ) → seat c past ≡ unseated → marks c past ≡ []

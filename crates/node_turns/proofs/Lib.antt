@@ -1,7 +1,9 @@
 pub mod DistinctNames
 pub mod WantsCounted
 pub mod WantsNumbered
+mod TurnsSeen
 mod WantsOwned
+pub mod Gone
 pub mod Wishing
 mod Putting
 pub mod MarksPlaced

@@ -1,10 +1,9 @@
 -- Giving each want that the turn takes its mark is what the turn does to the streams.
-use Rattle.std.proofs.Common.{ℕ, zero, suc, ◌+◌, ◌≡◌, ◌≤◌, ◌==◌, ◌&&◌, Bool, true, false, List, [], ◌∷◌, ◌++◌, length, map, take, drop, Some, None, Option}
+use Rattle.std.proofs.Common.{ℕ, zero, suc, ◌+◌, ◌≡◌, ◌≤◌, Bool, true, false, cond, List, [], ◌∷◌, ◌++◌, length, map, take, drop, Some, None, Option}
 use Rattle.std.proofs.Common.{refl, ap, sym, subst, ◌∙◌, arith, is_none}
 use Rattle.std.specs.Prelude.{leb, ltb, option_map}
 use Rattle.std.specs.List.{list_any, AllByRecursion}
 use Rattle.std.proofs.lemmas.Bool.Decides.{nat_tests}
-use Rattle.std.proofs.Math.Bool.{and-false}
 use Rattle.cable_base.proofs.Each.{All-implied}
 use Rattle.cable_model.specs.Connection.{Want, Sub}
 use Rattle.cable_model.specs.declared.journals.ReadNote.{ReadNote}
@@ -18,12 +17,14 @@ use Rattle.conn_core.specs.Marked.{Marks, marked_want, marked_sub, row_id}
 use Rattle.conn_core.specs.Subscriptions.{Subscription}
 use Rattle.conn_seat.specs.Seated.{SeatOf, marks_at}
 use Rattle.conn_seat.specs.Seats.{Seated}
-use Rattle.conn_seat.specs.Turns.{placed_each, taken_by, taken_stream, AreTaken, AreTakenOf, is_pair, or_mark}
+use Rattle.conn_seat.specs.Turns.{placed_each, taken_by, taken_stream, AreTaken, AreTakenOf, is_pair}
 use Rattle.conn_seat.proofs.Placing.{places-take}
 use Rattle.node_seats.specs.declared.turning.Wanted.{Wanted}
 use Rattle.node_seats.specs.Turned.{pairs_by, pair_of}
 use Rattle.stream_set.specs.declared.entries.StreamEntry.{StreamEntry}
 use Rattle.node_turns.specs.Wished.{AreWished, wants_of, taken_count, found_made}
+use Rattle.node_turns.proofs.Gone.{over-shut}
+use Rattle.node_turns.proofs.PlacingJournal.{shut}
 use Rattle.node_turns.proofs.WantsCounted.{userless-mark, userless-wants, legal-at_ask, wants-length, wants-since, count-within}
 use Rattle.node_turns.proofs.WantsNumbered.{Numbered, made-numbered}
 use Rattle.node_turns.proofs.WantsOwned.{Owns, owned}
@@ -48,29 +49,15 @@ All-front P (x ∷ xs) ys h = (h.0, All-front P xs ys h.1)
 at-want : (s w n : ℕ) (ys : List Wanted) → Numbered n ys → AllByRecursion (λ (y : Wanted). y.want.0 ≡ w → y.sub.0 ≡ s) ys → n ≤ w
     → list_any (is_pair (record { 0 = s }) (record { 0 = w })) (map pair_of ys) ≡ ltb w (n + length ys)
 at-want s w n [] h o l = grind (arith, nat_tests)
-at-want s w n (y ∷ ys) h o l = go (w == y.want.0) refl (λ m. at-want s w (suc n) ys h.2 o.1 m)
-  where
-    go : (b : Bool) → (w == y.want.0) ≡ b → (suc n ≤ w → list_any (is_pair (record { 0 = s }) (record { 0 = w })) (map pair_of ys) ≡ ltb w (suc n + length ys))
-        → list_any (is_pair (record { 0 = s }) (record { 0 = w })) (map pair_of (y ∷ ys)) ≡ ltb w (n + length (y ∷ ys))
-    go true b ih =
-        let e : y.want.0 ≡ w = grind (arith, nat_tests) in
-        let f = o.0 e in
-        let t : (s == y.sub.0) ≡ true = grind (arith, nat_tests) in
-        let g = h.0 in
-        let r : ltb w (n + length (y ∷ ys)) ≡ true = grind (arith, nat_tests) in
-        rw (t, b, r) refl
-    go false b ih =
-        let g = h.0 in
-        let m : suc n ≤ w = grind (arith, nat_tests) in
-        let r : suc n + length ys ≡ n + length (y ∷ ys) = omega arith in
-        let none : ((s == y.sub.0) && (w == y.want.0)) ≡ false = rw b (and-false (s == y.sub.0)) in
-        rw none (ih m ∙ ap (ltb w) r)
+at-want s w n (y ∷ ys) h o l =
+    let number = h.0 in
+    let own = o.0 in
+    grind (arith, nat_tests, (λ (m : suc n ≤ w). at-want s w (suc n) ys h.2 o.1 m), number, own)
 
 -- ---- the streams that are taken
 
 no-mark : (o : Option ℕ) → is_none (option_map row_id o) ≡ true → o ≡ None
-no-mark None h = refl
-no-mark (Some m) h = absurd (cc (h))
+no-mark o h = grind arith
 
 taken-of : (ms : Marks) (seen s n : ℕ) (ys : List Wanted) (ws : List Want) → Numbered n ys → n + length ys ≡ suc seen → ((w : ℕ) → ms w ≡ None → n ≤ w)
     → AllByRecursion (λ (y : Wanted). AllByRecursion (λ (w : Want). y.want.0 ≡ w.number → y.sub.0 ≡ s) ws) ys
@@ -101,16 +88,8 @@ taken-subs ms seen n ys (x ∷ xs) h l u o = (
 -- a want without a mark was taken by no turn
 pub unmarked-above : (w : ℕ) (ms : List Mark) → mark_of w ms ≡ None → taken_count ms ≤ w
 unmarked-above w [] h = omega arith
-unmarked-above w (t ∷ []) h = go (leb w t.seen) refl
-  where
-    go : (b : Bool) → leb w t.seen ≡ b → suc t.seen ≤ w
-    go true b = let h' = rw b at h in absurd (cc (h'))
-    go false b = grind (arith, nat_tests)
-unmarked-above w (t ∷ r ∷ ts) h = go (leb w t.seen) refl (unmarked-above w (r ∷ ts))
-  where
-    go : (b : Bool) → leb w t.seen ≡ b → (mark_of w (r ∷ ts) ≡ None → taken_count (r ∷ ts) ≤ w) → taken_count (r ∷ ts) ≤ w
-    go true b ih = let h' = rw b at h in absurd (cc (h'))
-    go false b ih = let h' = rw b at h in ih h'
+unmarked-above w (t ∷ []) h = grind (arith, nat_tests)
+unmarked-above w (t ∷ r ∷ ts) h = grind (arith, nat_tests, unmarked-above w (r ∷ ts), h)
 
 pub record Found (c : ℕ) (past : List Step) : Type 0 where
   pub numbered : Numbered (taken_count (marks c past)) (found_made c past)
@@ -145,9 +124,7 @@ pub none-found : (c : ℕ) (past : List Step) → Legal past → user_of c (at_a
 none-found c past l u = ap (drop (taken_count (marks c past))) (userless-wants c (at_ask past) (legal-at_ask past l) u) ∙ drop-nil (taken_count (marks c past))
 
 none-stream : (e : StreamEntry) → taken_stream [] e ≡ e
-none-stream e =
-    elim e.mark as (λ m. record { name = e.name; want = e.want; mark = or_mark m None } ≡ record { name = e.name; want = e.want; mark = m })
-    [ None ↦ refl | Some m ↦ refl ]
+none-stream e = grind arith
 
 none-streams : (es : List StreamEntry) → map (taken_stream []) es ≡ es
 none-streams [] = refl
@@ -159,11 +136,11 @@ none-taken (s ∷ subs) =
     ap (λ es. record { number = s.number; identifier = s.identifier; streams = es } ∷ taken_by [] subs) (none-streams s.streams)
     ∙ ap (λ xs. s ∷ xs) (none-taken subs)
 
-pub turn-places : (c : ℕ) (note : ReadNote) (past : List Step) (s : Seated) (ws : List Wanted) (taken : ℕ)
-    → Legal past → is_out past ≡ true → note.failed ≡ false → SeatOf c past s → AreWished past ws taken
+pub turn-places : (c : ℕ) (note : ReadNote) (past : List Step) (s : Seated) (gone : ℕ → Bool) (ws : List Wanted) (taken : ℕ)
+    → Legal past → is_out past ≡ true → note.failed ≡ false → SeatOf c past s → AreWished past gone ws taken
     → placed_each note.last (pairs_by c (take taken ws)) s.subs ≡ taken_by (turn_mark c note past) s.subs
-turn-places c note past s ws taken l o f h w =
-    ap (λ ys. placed_each note.last (map pair_of ys) s.subs) (w.out o c) ∙ go (user_of c (at_ask past)) refl
+turn-places c note past s gone ws taken l o f h w =
+    ap (λ ys. placed_each note.last (map pair_of ys) s.subs) (w.out o c) ∙ by-gone (gone c) refl
   where
     go : (u : Option (List ℕ)) → user_of c (at_ask past) ≡ u
         → placed_each note.last (map pair_of (found_made c past)) s.subs ≡ taken_by (turn_mark c note past) s.subs
@@ -178,3 +155,11 @@ turn-places c note past s ws taken l o f h w =
         (taken-subs (marks_at c past) (made c (at_ask past)) (taken_count (marks c past)) (found_made c past) (seat c past).conn.subs d.numbered d.length_is
         (λ w m. unmarked-above w (marks c past) m) d.owns) in
         places-take (made c (at_ask past)) note.last (map pair_of (found_made c past)) s.subs are ∙ ap (λ ts. taken_by ts s.subs) (sym mark)
+
+    by-gone : (b : Bool) → gone c ≡ b
+        → placed_each note.last (map pair_of (cond (gone c) [] (found_made c past))) s.subs ≡ taken_by (turn_mark c note past) s.subs
+    by-gone true g =
+        let none : (seat c past).conn.subs ≡ [] = (shut c past l (over-shut c s.user past (w.over c g) h.user)).0 in
+        let none' : s.subs ≡ [] = h.shows.conn.subs ∙ ap (map (marked_sub (marks_at c past))) none in
+        rw (g, none') refl
+    by-gone false g = rw g (go (user_of c (at_ask past)) refl)

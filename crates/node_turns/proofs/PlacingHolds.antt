@@ -12,17 +12,16 @@ use Rattle.subscriber_map.specs.Holds.{is_before, IsNewAmong, with_hold}
 use Rattle.subscriber_map.specs.HoldMaps.{HoldMap, holds_at, with_hold_at}
 use Rattle.subscriber_map.proofs.ByName.{ties_is}
 use Rattle.node_turns.specs.Held.{is_on, holds_on}
+use Rattle.std.proofs.lemmas.List.{append-nil}
 
 -- ---- a look-up
 
 looked-up : (b : Bool) (v : List Hold) (o : Option (List Hold)) → unwrap_or (cond b (Some v) o) [] ≡ cond b v (unwrap_or o [])
-looked-up true v o = refl
-looked-up false v o = refl
+looked-up b v o = grind arith
 
 same-name : (b : Bool) (m : HoldMap) (name r : List ℕ) (h : Hold) → bytes_eq name r ≡ b
     → cond b (with_hold h (holds_at m name)) (holds_at m r) ≡ cond b (with_hold h (holds_at m r)) (holds_at m r)
-same-name true m name r h e = ap (λ q. with_hold h (holds_at m q)) ((bytes_eq-Decides name r).0 e)
-same-name false m name r h e = refl
+same-name b m name r h e = grind (arith, bytes_eq-Decides name r)
 
 -- under its own name it is put in its place, and the others are left alone
 pub holds-placed : (m : HoldMap) (name r : List ℕ) (h : Hold)
@@ -37,35 +36,16 @@ holds-placed m name r h =
 
 filter-swap : (p q : Hold → Bool) (hs : List Hold) → filter p (filter q hs) ≡ filter q (filter p hs)
 filter-swap p q [] = refl
-filter-swap p q (h ∷ hs) = go (p h) refl (q h) refl (filter-swap p q hs)
-  where
-    go : (a : Bool) → p h ≡ a → (b : Bool) → q h ≡ b → filter p (filter q hs) ≡ filter q (filter p hs)
-        → filter p (filter q (h ∷ hs)) ≡ filter q (filter p (h ∷ hs))
-    go true a true b ih = rw (a, b) (rw a (ap (λ ys. h ∷ ys) ih))
-    go true a false b ih = rw (a, b) ih
-    go false a true b ih = rw (a, b) (rw a ih)
-    go false a false b ih = rw (a, b) ih
+filter-swap p q (h ∷ hs) = grind (arith, filter-swap p q hs)
 
 -- a test that all of them pass, or none
 filter-all : (p q : Hold → Bool) (hs : List Hold) → ((h : Hold) → p h ≡ true → q h ≡ true) → filter p (filter q hs) ≡ filter p hs
 filter-all p q [] f = refl
-filter-all p q (h ∷ hs) f = go (p h) refl (q h) refl (filter-all p q hs f)
-  where
-    go : (a : Bool) → p h ≡ a → (b : Bool) → q h ≡ b → filter p (filter q hs) ≡ filter p hs → filter p (filter q (h ∷ hs)) ≡ filter p (h ∷ hs)
-    go true a true b ih = rw (a, b) (rw a (ap (λ ys. h ∷ ys) ih))
-    go true a false b ih = let t = f h a in absurd (cc (t, b))
-    go false a true b ih = rw (a, b) (rw a ih)
-    go false a false b ih = rw (a, b) ih
+filter-all p q (h ∷ hs) f = grind (arith, filter-all p q hs f, f h)
 
 filter-none : (p q : Hold → Bool) (hs : List Hold) → ((h : Hold) → p h ≡ true → q h ≡ false) → filter p (filter q hs) ≡ []
 filter-none p q [] f = refl
-filter-none p q (h ∷ hs) f = go (p h) refl (q h) refl (filter-none p q hs f)
-  where
-    go : (a : Bool) → p h ≡ a → (b : Bool) → q h ≡ b → filter p (filter q hs) ≡ [] → filter p (filter q (h ∷ hs)) ≡ []
-    go true a true b ih = let t = f h a in absurd (cc (t, b))
-    go true a false b ih = rw b ih
-    go false a true b ih = rw b (rw a ih)
-    go false a false b ih = rw b ih
+filter-none p q (h ∷ hs) f = grind (arith, filter-none p q hs f, f h)
 
 -- the connection's own
 pub placed-on : (c : ℕ) (h : Hold) (hs : List Hold) → is_on c h ≡ true → holds_on c (with_hold h hs) ≡ with_hold h (holds_on c hs)
@@ -98,11 +78,7 @@ placed-off c h hs e =
     go : (b : Bool) → ltb c h.conn.0 ≡ b → filter (is_on c) front ++ filter (is_on c) back ≡ holds_on c hs
     go true b =
         ap (λ xs. xs ++ filter (is_on c) back) (filter-all (is_on c) (λ x. is_before x h) hs (λ x o. before x b o))
-        ∙ (ap (λ xs. holds_on c hs ++ xs) (filter-none (is_on c) (λ x. not (is_before x h)) hs (λ x o. ap not (before x b o))) ∙ append-none (holds_on c hs))
-      where
-        append-none : (xs : List Hold) → xs ++ [] ≡ xs
-        append-none [] = refl
-        append-none (x ∷ xs) = ap (λ ys. x ∷ ys) (append-none xs)
+        ∙ (ap (λ xs. holds_on c hs ++ xs) (filter-none (is_on c) (λ x. not (is_before x h)) hs (λ x o. ap not (before x b o))) ∙ append-nil (holds_on c hs))
     go false b =
         ap (λ xs. xs ++ filter (is_on c) back) (filter-none (is_on c) (λ x. is_before x h) hs (λ x o. behind x b o))
         ∙ filter-all (is_on c) (λ x. not (is_before x h)) hs (λ x o. ap not (behind x b o))

@@ -3,83 +3,39 @@ use Rattle.std.proofs.Common.{ℕ, suc, ◌≡◌, ◌<◌, ◌≤◌, ◌==◌,
 use Rattle.std.proofs.Common.{refl, ap, sym, subst, ◌∙◌, arith, bytes_eq, is_some, leb, ltb}
 use Rattle.std.specs.Prelude.{option_map}
 use Rattle.std.specs.List.{AllByRecursion}
-use Rattle.std.proofs.lemmas.List.{append-nil}
 use Rattle.std.proofs.lemmas.Bool.Decides.{nat_tests}
 use Rattle.cable_base.specs.declared.numbers.RowId.{RowId}
-use Rattle.cable_base.proofs.Each.{All-append, All-implied}
 use Rattle.cable_base.proofs.Rises.{Rises}
-use Rattle.cable_json.specs.Commands.{command_of}
 use Rattle.stream_set.specs.Streams.{has_name, has_want}
 use Rattle.stream_set.specs.Streams as streams
 use Rattle.cable_model.specs.declared.journals.ReadNote.{ReadNote}
-use Rattle.cable_model.specs.declared.pieces.Piece.TheVariants as piece
 use Rattle.cable_model.specs.declared.plans.Change.{Change}
 use Rattle.cable_model.specs.declared.plans.Change.TheVariants as change
 use Rattle.cable_model.specs.Connection.{Want, Sub, Conn, among, changed}
 use Rattle.cable_model.specs.Legal.{Legal}
-use Rattle.cable_model.specs.Pieces.{Seat, seat, waiting, with_put, with_all, deliver_puts}
+use Rattle.cable_model.specs.Pieces.{Seat, seat, waiting}
 use Rattle.cable_model.specs.Plans.{names_of}
 use Rattle.cable_model.specs.Possible.{has_job, is_empty, can_take}
 use Rattle.cable_model.specs.Steps.{Step}
 use Rattle.cable_model.specs.Wants.{Mark, marks, mark_of, marked, turn_mark, user_of, made, at_ask}
-use Rattle.cable_model.proofs.Holding.{marks-at_ask}
 use Rattle.cable_model.proofs.Stored.{HasPlan, has-plan}
 use Rattle.conn_core.specs.Marked.{row_id, Marks, marked_want, marked_sub}
 use Rattle.conn_core.specs.Subscriptions.{AreDifferent}
 use Rattle.node_seats.specs.declared.turning.Wanted.{Wanted}
 use Rattle.node_turns.specs.Wished.{wants_of, taken_count, found_made}
-use Rattle.node_turns.proofs.WantsCounted.{legal-at_ask, userless-wants, wants-length, count-last, count-within}
+use Rattle.node_turns.proofs.WantsCounted.{legal-at_ask, userless-wants, wants-length}
 use Rattle.node_turns.proofs.DistinctNames.{AllNamed, distinct}
 use Rattle.node_turns.proofs.PlacingSubs.{Sits, FreeAmong, Free}
 use Rattle.node_turns.proofs.WantsNumbered.{Numbered, valid-legal, made-numbered}
 use Rattle.node_turns.proofs.PlacingWalk.{own_after}
+use Rattle.cable_model.proofs.Entries.{only-puts}
+use Rattle.node_turns.proofs.TurnsSeen.{above-none, seens}
 
 -- ---- marks
 
-abbrev SeenBelow : ℕ → List Mark → Type 0
-SeenBelow n ms = AllByRecursion (λ (t : Mark). t.seen < n) ms
-
--- each turn found fewer than the last one took
-seen-below : (c : ℕ) (past : List Step) → Legal past → SeenBelow (taken_count (marks c past)) (marks c past)
-seen-below c [] l = tt
-seen-below c (Step.Deliver turn note ∷ past) l = go (user_of c (at_ask past)) refl note.failed refl (seen-below c past l.1)
-  where
-    go : (u : Option (List ℕ)) → user_of c (at_ask past) ≡ u → (f : Bool) → note.failed ≡ f → SeenBelow (taken_count (marks c past)) (marks c past)
-        → SeenBelow (taken_count (marks c past ++ turn_mark c note past)) (marks c past ++ turn_mark c note past)
-    go None u f f' ih = rw (u, append-nil (marks c past)) ih
-    go (Some x) u true f ih = rw (u, f, append-nil (marks c past)) ih
-    go (Some x) u false f ih =
-        let t : Mark = record { seen = made c (at_ask past); last = note.last.0 } in
-        let count : taken_count (marks c past ++ t ∷ []) ≡ suc (made c (at_ask past)) = count-last (marks c past) t in
-        let many : length (wants_of c (at_ask past)) ≡ suc (made c (at_ask past)) = wants-length c x (at_ask past) (legal-at_ask past l.1) u in
-        let before = count-within c (at_ask past) (legal-at_ask past l.1) in
-        let same : marks c past ≡ marks c (at_ask past) = marks-at_ask c past l.0.0 in
-        let few : taken_count (marks c past) ≤ suc (made c (at_ask past)) =
-        subst (λ ms. taken_count ms ≤ suc (made c (at_ask past))) (sym same) (omega (arith, before, many)) in
-        rw (u, f, count)
-        (All-append (λ (y : Mark). y.seen < suc (made c (at_ask past))) (marks c past) (t ∷ [])
-        (All-implied (λ (y : Mark). y.seen < taken_count (marks c past)) (λ (y : Mark). y.seen < suc (made c (at_ask past))) (marks c past)
-        (λ y h. omega (arith, h, few)) ih)
-        (omega arith, tt))
-seen-below c (Step.Open d token user ∷ past) l = seen-below c past l.1
-seen-below c (Step.Boot last ∷ past) l = seen-below c past l.1
-seen-below c (Step.In d text ∷ past) l = seen-below c past l.1
-seen-below c (Step.Drop d ∷ past) l = seen-below c past l.1
-seen-below c (Step.Stop ∷ past) l = seen-below c past l.1
-seen-below c (Step.Take d ∷ past) l = seen-below c past l.1
-seen-below c (Step.Finish d puts plan ∷ past) l = seen-below c past l.1
-seen-below c (Step.Ask turn ∷ past) l = seen-below c past l.1
-seen-below c (Step.Beat now ∷ past) l = seen-below c past l.1
-
-unseen : (n w : ℕ) (ms : List Mark) → SeenBelow n ms → n ≤ w → mark_of w ms ≡ None
-unseen n w [] h l = refl
-unseen n w (t ∷ ms) h l =
-    let f : leb w t.seen ≡ false = (let low = h.0 in grind (arith, nat_tests)) in
-    rw f (unseen n w ms h.1 l)
-
 -- a want that no turn took has no mark
 pub unmarked-from : (c w : ℕ) (past : List Step) → Legal past → taken_count (marks c past) ≤ w → mark_of w (marks c past) ≡ None
-unmarked-from c w past l h = unseen (taken_count (marks c past)) w (marks c past) (seen-below c past l) h
+unmarked-from c w past l h = above-none (taken_count (marks c past)) w (marks c past) (seens c past l) h
 
 -- ---- the connection's own mark
 
@@ -201,30 +157,14 @@ abbrev Shut : Seat → Type 0
 Shut s = s.conn.over ≡ true → (s.conn.subs ≡ []) × (has_job s ≡ false)
 
 changed-over : (x : Change) (place : ℕ) (k : Conn) → k.over ≡ false → (changed x place k).over ≡ true → (changed x place k).subs ≡ []
-changed-over change.Nothing place k f t = absurd (cc (f, t))
-changed-over (change.Add identifier streams) place k f t = absurd (cc (f, t))
-changed-over (change.Streams identifier stops streams) place k f t = absurd (cc (f, t))
-changed-over (change.Remove identifier) place k f t = absurd (cc (f, t))
 changed-over change.Close place k f t = refl
+changed-over _ place k f t = absurd (cc (f, t))
 
 live-open : (u : Bool) (over job empty : Bool) → (u && not over && not job && not empty) ≡ true → over ≡ false
-live-open true false j e t = refl
-live-open true true j e t = absurd (cc (t))
-live-open false o j e t = absurd (cc (t))
+live-open u over job empty t = grind arith
 
 pub shut : (c : ℕ) (past : List Step) → Legal past → Shut (seat c past)
 shut c [] l = λ t. absurd (cc (t))
-shut c (Step.Boot last ∷ past) l = shut c past l.1
-shut c (Step.Open d token user ∷ past) l = shut c past l.1
-shut c (Step.In d text ∷ past) l =
-    let ih = shut c past l.1 in
-    elim (d == c) as (λ b. Shut (cond b (with_put (seat c past) (piece.Cmd (command_of text))) (seat c past))) [ true ↦ ih | false ↦ ih ]
-shut c (Step.Drop d ∷ past) l =
-    let ih = shut c past l.1 in
-    elim (d == c) as (λ b. Shut (cond b (with_put (seat c past) piece.Gone) (seat c past))) [ true ↦ ih | false ↦ ih ]
-shut c (Step.Stop ∷ past) l =
-    let ih = shut c past l.1 in
-    elim (is_some (user_of c past)) as (λ b. Shut (cond b (with_put (seat c past) piece.Restart) (seat c past))) [ true ↦ ih | false ↦ ih ]
 shut c (Step.Take d ∷ past) l = go (d == c) refl (shut c past l.1)
   where
     go : (b : Bool) → (d == c) ≡ b → Shut (seat c past) → Shut (seat c (Step.Take d ∷ past))
@@ -250,10 +190,6 @@ shut c (Step.Finish d puts plan ∷ past) l = go (d == c) refl (shut c past l.1)
         before : (o : Bool) → (seat c past).conn.over ≡ o → has_job (seat c past) ≡ true → Shut (seat c past) → (seat c past).conn.over ≡ false
         before true o out ih = let none = (ih o).1 in absurd (cc (out, none))
         before false o out ih = o
-shut c (Step.Ask turn ∷ past) l = shut c past l.1
-shut c (Step.Deliver turn note ∷ past) l =
-    let ih = shut c past l.1 in
-    elim note.failed as (λ b. Shut
-    (cond b (seat c past) (with_all (seat c past) (deliver_puts (user_of c past) (marks c past) (turn_mark c note past) (seat c past).conn.subs note.rows))))
-    [ true ↦ ih | false ↦ ih ]
-shut c (Step.Beat now ∷ past) l = shut c past l.1
+shut c (e ∷ past) l =
+    let put = only-puts c e past refl in
+    subst Shut (sym put.1) (shut c past l.1)

@@ -1,7 +1,7 @@
 -- What placing one want makes of the holds of a connection's subscriptions.
-use Rattle.std.proofs.Common.{◌≡◌, ℕ, suc, ◌<◌, ◌≤◌, ◌==◌, ◌||◌, cond, Bool, true, false, List, [], ◌∷◌, ◌++◌, Option, Some, None, refl, ap, sym, subst, ◌∙◌}
+use Rattle.std.proofs.Common.{◌≡◌, ℕ, suc, ◌<◌, ◌≤◌, ◌==◌, cond, Bool, true, false, List, [], ◌∷◌, ◌++◌, Option, Some, None, refl, ap, sym, subst, ◌∙◌}
 use Rattle.std.proofs.Common.{arith, leb}
-use Rattle.std.specs.List.{AllByRecursion, list_any}
+use Rattle.std.specs.List.{AllByRecursion}
 use Rattle.std.specs.Str.{bytes_eq}
 use Rattle.std.proofs.lemmas.Bool.Decides.{nat_tests}
 use Rattle.std.proofs.lemmas.Slice.Eq.{bytes_eq-Decides}
@@ -11,7 +11,7 @@ use Rattle.cable_base.specs.declared.numbers.WantNo.{WantNo}
 use Rattle.cable_base.proofs.Each.{All-append, All-implied}
 use Rattle.stream_set.specs.declared.entries.StreamEntry.{StreamEntry}
 use Rattle.stream_set.specs.Streams.{AreApart, has_name, has_want, is_wanted_as, placed, placed_one as placed_stream}
-use Rattle.stream_set.proofs.Apart.{or-first, or-second, placed_one-name, placed_one-want, AreApart-placed}
+use Rattle.stream_set.proofs.Apart.{placed_one-name, placed_one-want, AreApart-placed}
 use Rattle.conn_core.specs.Subscriptions.{Subscription, placed_in}
 use Rattle.node_seats.specs.declared.turning.Wanted.{Wanted}
 use Rattle.subscriber_map.specs.declared.holding.Hold.{Hold}
@@ -79,118 +79,59 @@ hold_of c sub want mark = record { conn = conn_of c; sub = sub; want = want; mar
 
 none-wanted : (want : WantNo) (es : List StreamEntry) → has_want want es ≡ false → name_among want es ≡ None
 none-wanted want [] e = refl
-none-wanted want (d ∷ es) e =
-    rw (or-first (d.want.0 == want.0) (has_want want es) e) (none-wanted want es (or-second (d.want.0 == want.0) (has_want want es) e))
+none-wanted want (d ∷ es) e = grind (arith, none-wanted want es, e)
 
 -- it isn't among them
 not-placed : (want : WantNo) (mark : RowId) (es : List StreamEntry) → name_among want es ≡ None → placed want mark es ≡ es
 not-placed want mark [] e = refl
-not-placed want mark (d ∷ es) e = go (is_wanted_as want d) refl (not-placed want mark es)
-  where
-    go : (b : Bool) → is_wanted_as want d ≡ b → (name_among want es ≡ None → placed want mark es ≡ es) → placed want mark (d ∷ es) ≡ d ∷ es
-    go true b ih = let e' = rw b at e in absurd (cc (e'))
-    go false b ih = let e' = rw b at e in rw b (ap (λ ds. d ∷ ds) (ih e'))
+not-placed want mark (d ∷ es) e = grind (arith, not-placed want mark es, e)
 
 -- a name that is none of theirs has no hold
 unnamed : (c : ℕ) (name : List ℕ) (sub : SubNo) (es : List StreamEntry) → has_name name es ≡ false → stream_holds c name sub es ≡ []
 unnamed c name sub [] e = refl
-unnamed c name sub (d ∷ es) e =
-    rw (or-first (bytes_eq d.name name) (has_name name es) e) (unnamed c name sub es (or-second (bytes_eq d.name name) (has_name name es) e))
+unnamed c name sub (d ∷ es) e = grind (arith, unnamed c name sub es, e)
 
 -- the name of one that is among them is one of theirs
 named : (want : WantNo) (name : List ℕ) (es : List StreamEntry) → name_among want es ≡ Some name → has_name name es ≡ true
 named want name [] e = absurd (cc (e))
-named want name (d ∷ es) e = go (is_wanted_as want d) refl (named want name es)
-  where
-    go : (b : Bool) → is_wanted_as want d ≡ b → (name_among want es ≡ Some name → has_name name es ≡ true) → has_name name (d ∷ es) ≡ true
-    go true b ih =
-        let e' = rw b at e in
-        let same : d.name ≡ name = cc (e') in
-        let t : bytes_eq d.name name ≡ true = (bytes_eq-Decides d.name name).1 same in
-        rw t refl
-    go false b ih = let e' = rw b at e in rw (ih e') (or-true (bytes_eq d.name name))
-      where
-        or-true : (a : Bool) → (a || true) ≡ true
-        or-true true = refl
-        or-true false = refl
+named want name (d ∷ es) e = grind (arith, named want name es, bytes_eq-Decides d.name name, e)
 
 -- before it is placed, its name has no hold there
 pub was-none : (c n : ℕ) (sub : SubNo) (want : WantNo) (name : List ℕ) (es : List StreamEntry) → AreApart es → FreeAmong n es → want.0 ≡ n
     → name_among want es ≡ Some name → stream_holds c name sub es ≡ []
 was-none c n sub want name [] a f w e = refl
-was-none c n sub want name (d ∷ es) a f w e = go (is_wanted_as want d) refl (was-none c n sub want name es a.2 f.1 w)
-  where
-    go : (b : Bool) → is_wanted_as want d ≡ b → (name_among want es ≡ Some name → stream_holds c name sub es ≡ []) → stream_holds c name sub (d ∷ es) ≡ []
-    go true b ih =
-        let e' = rw b at e in
-        let same : d.name ≡ name = cc (e') in
-        let t : bytes_eq d.name name ≡ true = (bytes_eq-Decides d.name name).1 same in
-        let low : n ≤ d.want.0 = grind (arith, nat_tests) in
-        let none = f.0 low in
-        rw (t, none) (unnamed c name sub es (ap (λ x. has_name x es) (sym same) ∙ a.0))
-    go false b ih =
-        let e' = rw b at e in
-        let among = named want name es e' in
-        other (bytes_eq d.name name) refl among (ih e')
-      where
-        other : (t : Bool) → bytes_eq d.name name ≡ t → has_name name es ≡ true → stream_holds c name sub es ≡ [] → stream_holds c name sub (d ∷ es) ≡ []
-        other true t among ih =
-            let same : d.name ≡ name = (bytes_eq-Decides d.name name).0 t in
-            let not_among : has_name name es ≡ false = ap (λ x. has_name x es) (sym same) ∙ a.0 in
-            absurd (cc (among, not_among))
-        other false t among ih = rw t ih
+was-none c n sub want name (d ∷ es) a f w e =
+    let apart = a.0 in
+    let free = f.0 in
+    let none = unnamed c d.name sub es apart in
+    let ih = was-none c n sub want name es a.2 f.1 w in
+    grind (arith, nat_tests, ih, none, named want name es, bytes_eq-Decides d.name name, apart, free, e)
 
 -- .. and then the one of the want
 pub now-one : (c n : ℕ) (sub : SubNo) (want : WantNo) (mark : RowId) (name r : List ℕ) (es : List StreamEntry) → AreApart es → FreeAmong n es → want.0 ≡ n
     → name_among want es ≡ Some name
     → stream_holds c r sub (placed want mark es) ≡ cond (bytes_eq name r) (hold_of c sub want mark ∷ []) (stream_holds c r sub es)
 now-one c n sub want mark name r [] a f w e = absurd (cc (e))
-now-one c n sub want mark name r (d ∷ es) a f w e = go (is_wanted_as want d) refl (now-one c n sub want mark name r es a.2 f.1 w)
-  where
-    go : (b : Bool) → is_wanted_as want d ≡ b
-        → (name_among want es ≡ Some name
-        → stream_holds c r sub (placed want mark es) ≡ cond (bytes_eq name r) (hold_of c sub want mark ∷ []) (stream_holds c r sub es))
-        → stream_holds c r sub (placed want mark (d ∷ es)) ≡ cond (bytes_eq name r) (hold_of c sub want mark ∷ []) (stream_holds c r sub (d ∷ es))
-    go true b ih =
-        let e' = rw b at e in
-        let same : d.name ≡ name = cc (e') in
-        let number : d.want.0 ≡ want.0 = grind (arith, nat_tests) in
-        let low : n ≤ d.want.0 = omega arith in
-        let none : d.mark ≡ None = f.0 low in
-        let rest : placed want mark es ≡ es =
-        not-placed want mark es (none-wanted want es (ap (λ k. list_any (λ (x : StreamEntry). x.want.0 == k) es) (sym number) ∙ a.1)) in
-        here same number none rest (bytes_eq d.name r) refl
-      where
-        here : d.name ≡ name → d.want.0 ≡ want.0 → d.mark ≡ None → placed want mark es ≡ es → (t : Bool) → bytes_eq d.name r ≡ t
-            → stream_holds c r sub (placed want mark (d ∷ es)) ≡ cond (bytes_eq name r) (hold_of c sub want mark ∷ []) (stream_holds c r sub (d ∷ es))
-        here same number none rest true t =
-            let t' : bytes_eq name r ≡ true = ap (λ x. bytes_eq x r) (sym same) ∙ t in
-            let mine : r ≡ d.name = sym ((bytes_eq-Decides d.name r).0 t) in
-            let others : stream_holds c r sub es ≡ [] = unnamed c r sub es (ap (λ x. has_name x es) mine ∙ a.0) in
-            rw (b, none, rest, t, others, t') (ap (λ k. hold_of c sub (record { 0 = k }) mark ∷ []) number)
-        here same number none rest false t =
-            let t' : bytes_eq name r ≡ false = ap (λ x. bytes_eq x r) (sym same) ∙ t in
-            rw (b, none, rest, t, t') refl
-    go false b ih =
-        let e' = rw b at e in
-        let among = named want name es e' in
-        other (bytes_eq d.name r) refl among (ih e')
-      where
-        other : (t : Bool) → bytes_eq d.name r ≡ t → has_name name es ≡ true
-            → stream_holds c r sub (placed want mark es) ≡ cond (bytes_eq name r) (hold_of c sub want mark ∷ []) (stream_holds c r sub es)
-            → stream_holds c r sub (placed want mark (d ∷ es)) ≡ cond (bytes_eq name r) (hold_of c sub want mark ∷ []) (stream_holds c r sub (d ∷ es))
-        other true t among ih =
-            let off : bytes_eq name r ≡ false = apart (bytes_eq name r) refl in
-            rw (b, t, ih, off) refl
-          where
-            apart : (u : Bool) → bytes_eq name r ≡ u → bytes_eq name r ≡ false
-            apart true u =
-                let one : d.name ≡ r = (bytes_eq-Decides d.name r).0 t in
-                let two : name ≡ r = (bytes_eq-Decides name r).0 u in
-                let not_among : has_name name es ≡ false = ap (λ x. has_name x es) (two ∙ sym one) ∙ a.0 in
-                absurd (cc (among, not_among))
-            apart false u = u
-        other false t among ih = rw (b, t) ih
+now-one c n sub want mark name r (d ∷ es) a f w e =
+    let apart = a.0 in
+    let number = a.1 in
+    let free = f.0 in
+    let ih = now-one c n sub want mark name r es a.2 f.1 w in
+    grind (
+      arith,
+      nat_tests,
+      ih,
+      not-placed want mark es,
+      none-wanted want es,
+      unnamed c r sub es,
+      named want name es,
+      bytes_eq-Decides d.name r,
+      bytes_eq-Decides name r,
+      apart,
+      number,
+      free,
+      e,
+    )
 
 -- ---- the subscriptions
 
@@ -211,16 +152,9 @@ wanted-above b w (s ∷ subs) h l =
 pub unplaced : (b : ℕ) (w : Wanted) (mark : RowId) (subs : List Subscription) → Sits b subs → name_wanted w subs ≡ None
     → placed_in w.sub w.want mark subs ≡ subs
 unplaced b w mark [] h e = refl
-unplaced b w mark (s ∷ subs) h e = go (s.number.0 == w.sub.0) refl (unplaced s.number.0 w mark subs h.2)
-  where
-    go : (t : Bool) → (s.number.0 == w.sub.0) ≡ t → (name_wanted w subs ≡ None → placed_in w.sub w.want mark subs ≡ subs)
-        → placed_in w.sub w.want mark (s ∷ subs) ≡ s ∷ subs
-    go true t ih =
-        let e' = rw t at e in
-        let streams = not-placed w.want mark s.streams e' in
-        let rest = placed-above s.number.0 w.sub w.want mark subs h.2 (grind (arith, nat_tests)) in
-        rw (t, streams, rest) refl
-    go false t ih = let e' = rw t at e in rw t (ap (λ ss. s ∷ ss) (ih e'))
+unplaced b w mark (s ∷ subs) h e =
+    let rest = placed-above s.number.0 w.sub w.want mark subs h.2 in
+    grind (arith, nat_tests, unplaced s.number.0 w mark subs h.2, not-placed w.want mark s.streams, rest, e)
 
 -- one that stands has no hold yet, nor has its subscription one of its name
 pub newly-held : (c n b : ℕ) (w : Wanted) (mark : RowId) (name : List ℕ) (subs : List Subscription) → Sits b subs → Free n subs → w.want.0 ≡ n
@@ -385,9 +319,4 @@ names-among w want mark (e ∷ es) =
 pub placed-names : (w : Wanted) (sub : SubNo) (want : WantNo) (mark : RowId) (subs : List Subscription)
     → name_wanted w (placed_in sub want mark subs) ≡ name_wanted w subs
 placed-names w sub want mark [] = refl
-placed-names w sub want mark (s ∷ subs) = go (s.number.0 == sub.0) refl (placed-names w sub want mark subs)
-  where
-    go : (t : Bool) → (s.number.0 == sub.0) ≡ t → name_wanted w (placed_in sub want mark subs) ≡ name_wanted w subs
-        → name_wanted w (placed_in sub want mark (s ∷ subs)) ≡ name_wanted w (s ∷ subs)
-    go true t ih = rw (t, names-among w.want want mark s.streams, ih) refl
-    go false t ih = rw (t, ih) refl
+placed-names w sub want mark (s ∷ subs) = grind (arith, placed-names w sub want mark subs, names-among w.want want mark s.streams)

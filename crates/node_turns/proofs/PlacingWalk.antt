@@ -25,6 +25,7 @@ use Rattle.node_turns.proofs.PlacingHolds.{holds-placed, placed-on, placed-off, 
 use Rattle.node_turns.proofs.PlacingSubs.{Sits, Free, LiesAbove, subs-lie, hold_of, unplaced, newly-held, then-held, placed-sits, placed-free, placed-names}
 use Rattle.node_turns.proofs.PlacingSubs.{placed-above}
 use Rattle.node_turns.proofs.PlacingSteps.{with-both}
+use Rattle.std.proofs.lemmas.List.{append-nil}
 
 -- the connection's own mark, once this want is placed
 abbrev pub own_next : RowId → Wanted → Option ℕ → Option ℕ
@@ -50,26 +51,17 @@ pub record At (c : ℕ) (user : List ℕ) (first : List Subscription) (n : ℕ) 
 -- what a connection has of a name, once a hold is placed
 placed-for : (c : ℕ) (m : HoldMap) (name r : List ℕ) (h : Hold) → is_on c h ≡ true
     → holds_on c (holds_at (with_hold_at m name h) r) ≡ cond (bytes_eq name r) (with_hold h (holds_on c (holds_at m r))) (holds_on c (holds_at m r))
-placed-for c m name r h o = ap (holds_on c) (holds-placed m name r h) ∙ go (bytes_eq name r)
-  where
-    go : (b : Bool)
-        → holds_on c (cond b (with_hold h (holds_at m r)) (holds_at m r)) ≡ cond b (with_hold h (holds_on c (holds_at m r))) (holds_on c (holds_at m r))
-    go true = placed-on c h (holds_at m r) o
-    go false = refl
+placed-for c m name r h o = ap (holds_on c) (holds-placed m name r h) ∙ grind (arith, placed-on c h (holds_at m r) o)
 
 -- another connection's
 pub not-for : (c : ℕ) (mark : RowId) (w : Wanted) (o : Option (List ℕ)) (m : HoldMap) (r : List ℕ) → is_by c w ≡ false
     → holds_on c (holds_at (with_placings (placing_as mark w o) m) r) ≡ holds_on c (holds_at m r)
 not-for c mark w None m r f = refl
 not-for c mark w (Some name) m r f =
-    ap (holds_on c) (holds-placed m name r h) ∙ go (bytes_eq name r)
+    ap (holds_on c) (holds-placed m name r h) ∙ grind (arith, placed-off c h (holds_at m r) f)
   where
     h : Hold
     h = record { conn = w.conn; sub = w.sub; want = w.want; mark = mark }
-
-    go : (b : Bool) → holds_on c (cond b (with_hold h (holds_at m r)) (holds_at m r)) ≡ holds_on c (holds_at m r)
-    go true = placed-off c h (holds_at m r) f
-    go false = refl
 
 pub others : (c : ℕ) (user : List ℕ) (first : List Subscription) (n : ℕ) (own : Option ℕ) (subs : List Subscription) (mark : RowId) (w : Wanted)
     (o : Option (List ℕ)) (ws : List Wanted) (m : HoldMap)
@@ -154,7 +146,7 @@ stands-own c user first n own subs mark w ws m o r b h t k z =
     placed-for c m (own_name user) r new_hold b
     ∙ (ap (λ xs. cond (bytes_eq (own_name user) r) (with_hold new_hold xs) xs) (nothing-yet c user first n own subs ws m r z h)
     ∙ (ap (λ x. cond (bytes_eq (own_name user) r) (x ∷ []) []) same
-    ∙ (sym (append-none (own_hold c r (Some user) (Some mark.0))) ∙ ap (λ xs. own_hold c r (Some user) (Some mark.0) ++ xs) (sym none))))
+    ∙ (sym (append-nil (own_hold c r (Some user) (Some mark.0))) ∙ ap (λ xs. own_hold c r (Some user) (Some mark.0) ++ xs) (sym none))))
   where
     new_hold : Hold
     new_hold = record { conn = w.conn; sub = w.sub; want = w.want; mark = mark }
@@ -171,10 +163,6 @@ stands-own c user first n own subs mark w ws m o r b h t k z =
         let low : w.sub.0 ≤ 0 = grind (arith, nat_tests) in
         ap (sub_holds c r) (placed-above 0 w.sub w.want mark subs h.sits low)
         ∙ none-below c 0 (sub_holds c r subs) (subs-lie c 0 0 r subs h.sits (subst (λ x. Free x subs) z h.free))
-
-    append-none : (xs : List Hold) → xs ++ [] ≡ xs
-    append-none [] = refl
-    append-none (x ∷ xs) = ap (λ ys. x ∷ ys) (append-none xs)
 
 stands-none : (c : ℕ) (user : List ℕ) (first : List Subscription) (n : ℕ) (own : Option ℕ) (subs : List Subscription) (mark : RowId) (w : Wanted)
     (ws : List Wanted) (m : HoldMap) (r : List ℕ)

@@ -1,14 +1,12 @@
 -- No want that stands has a reserved name: a plan passes the reserved streams of an answer over.
-use Rattle.std.proofs.Common.{ℕ, ◌+◌, ◌≡◌, ◌==◌, ◌&&◌, Bool, true, false, cond, not, List, [], ◌∷◌, ◌++◌, map, refl, sym, subst, bytes_eq, is_none, is_some}
+use Rattle.std.proofs.Common.{ℕ, ◌+◌, ◌≡◌, ◌==◌, ◌&&◌, Bool, true, false, cond, not, List, [], ◌∷◌, ◌++◌, map, refl, sym, subst, bytes_eq, is_none}
 use Rattle.std.specs.Prelude.{⊤, Result, Ok, Err}
 use Rattle.std.specs.List.{AllByRecursion}
 use Rattle.cable_base.proofs.Each.{All-append, All-filter}
 use Rattle.cable_base.specs.Names.{is_reserved}
-use Rattle.cable_json.specs.Commands.{command_of}
 use Rattle.channel_book.specs.declared.answers.Answer.{Answer}
 use Rattle.channel_book.specs.declared.answers.CallFault.{CallFault}
 use Rattle.cable_model.specs.declared.notes.Note.{Note}
-use Rattle.cable_model.specs.declared.pieces.Piece.TheVariants as piece
 use Rattle.cable_model.specs.declared.plans.Change.{Change}
 use Rattle.cable_model.specs.declared.plans.Change.TheVariants as change
 use Rattle.cable_model.specs.declared.plans.Plan.{Plan}
@@ -16,12 +14,12 @@ use Rattle.cable_model.specs.declared.plans.Task.{Task}
 use Rattle.cable_model.specs.declared.plans.Task.TheVariants as task
 use Rattle.cable_model.specs.Connection.{Want, Sub, Conn, wanted, among, without, streamed, changed}
 use Rattle.cable_model.specs.Legal.{Legal}
-use Rattle.cable_model.specs.Pieces.{seat, with_put, with_all, with_job, with_plan, deliver_puts}
+use Rattle.cable_model.specs.Pieces.{seat, with_plan}
 use Rattle.cable_model.specs.Plans.{Callbacks, stream_note, new_stream, new_streams, stream_notes, rejection, unless_bad, subscribe_plan, perform_plan}
 use Rattle.cable_model.specs.Plans.{unstopped, plan_for, task_of}
 use Rattle.cable_model.specs.Steps.{Step}
-use Rattle.cable_model.specs.Wants.{marks, turn_mark, user_of}
 use Rattle.cable_model.proofs.Stored.{HasPlan, has-plan}
+use Rattle.cable_model.proofs.Entries.{unfinished}
 
 abbrev pub AllPlain : List (List ℕ) → Type 0
 AllPlain names = AllByRecursion (λ (name : List ℕ). is_reserved name ≡ false) names
@@ -115,20 +113,6 @@ changed-plain change.Close place k p h = tt
 -- no want that stands has a reserved name
 pub unreserved : (c : ℕ) (past : List Step) → Legal past → ArePlain (seat c past).conn.subs
 unreserved c [] l = tt
-unreserved c (Step.Boot last ∷ past) l = unreserved c past l.1
-unreserved c (Step.Open d token user ∷ past) l = unreserved c past l.1
-unreserved c (Step.In d text ∷ past) l =
-    let ih = unreserved c past l.1 in
-    elim (d == c) as (λ b. ArePlain (cond b (with_put (seat c past) (piece.Cmd (command_of text))) (seat c past)).conn.subs) [ true ↦ ih | false ↦ ih ]
-unreserved c (Step.Drop d ∷ past) l =
-    let ih = unreserved c past l.1 in
-    elim (d == c) as (λ b. ArePlain (cond b (with_put (seat c past) piece.Gone) (seat c past)).conn.subs) [ true ↦ ih | false ↦ ih ]
-unreserved c (Step.Stop ∷ past) l =
-    let ih = unreserved c past l.1 in
-    elim (is_some (user_of c past)) as (λ b. ArePlain (cond b (with_put (seat c past) piece.Restart) (seat c past)).conn.subs) [ true ↦ ih | false ↦ ih ]
-unreserved c (Step.Take d ∷ past) l =
-    let ih = unreserved c past l.1 in
-    elim (d == c) as (λ b. ArePlain (cond b (with_job (seat c past)) (seat c past)).conn.subs) [ true ↦ ih | false ↦ ih ]
 unreserved c (Step.Finish d puts plan ∷ past) l =
     let ih = unreserved c past l.1 in
     let found : HasPlan l.0.0.callbacks d past plan = has-plan l.0.0.callbacks d past plan l.0.0.planned in
@@ -136,11 +120,4 @@ unreserved c (Step.Finish d puts plan ∷ past) l =
     subst (λ (p : Plan). WantsPlain p.change) (sym found.plan_is) (plan-plain l.0.0.callbacks found.user (task_of (seat d past).conn found.taken)) in
     elim (d == c) as (λ b. ArePlain (cond b (with_plan (seat c past) plan) (seat c past)).conn.subs)
     [ true ↦ changed-plain plan.change (seat c past).taken (seat c past).conn plain ih | false ↦ ih ]
-unreserved c (Step.Ask turn ∷ past) l = unreserved c past l.1
-unreserved c (Step.Deliver turn note ∷ past) l =
-    let ih = unreserved c past l.1 in
-    elim note.failed as (λ b.
-    ArePlain (cond b (seat c past)
-    (with_all (seat c past) (deliver_puts (user_of c past) (marks c past) (turn_mark c note past) (seat c past).conn.subs note.rows))).conn.subs)
-    [ true ↦ ih | false ↦ ih ]
-unreserved c (Step.Beat now ∷ past) l = unreserved c past l.1
+unreserved c (e ∷ past) l = subst (λ (k : Conn). ArePlain k.subs) (sym (unfinished c e past refl).conn) (unreserved c past l.1)

@@ -63,11 +63,6 @@ AreHeld past m = (c : ℕ) (name : List ℕ) → holds_on c (holds_at m name) �
 abbrev pub is_steady : Step → Bool
 is_steady (Step.Boot last) = false
 is_steady (Step.Open c token user) = false
-is_steady (Step.In c text) = true
-is_steady (Step.Drop c) = true
-is_steady Step.Stop = true
-is_steady (Step.Take c) = true
 is_steady (Step.Finish c puts plan) = false
-is_steady (Step.Ask turn) = true
 is_steady (Step.Deliver turn note) = false
-is_steady (Step.Beat now) = true
+is_steady _ = true

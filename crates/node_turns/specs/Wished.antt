@@ -5,7 +5,7 @@ use Rattle.cable_model.specs.Connection.{Sub}
 use Rattle.cable_model.specs.declared.plans.Change.{Change}
 use Rattle.cable_model.specs.declared.plans.Change.TheVariants as change
 use Rattle.cable_model.specs.Pieces.{seat}
-use Rattle.cable_model.specs.Possible.{is_out}
+use Rattle.cable_model.specs.Possible.{is_out, is_over}
 use Rattle.cable_model.specs.Steps.{Step}
 use Rattle.cable_model.specs.Wants.{Mark, marks, made, at_ask}
 use Rattle.node_seats.specs.declared.turning.Wanted.{Wanted}
@@ -59,11 +59,13 @@ untaken c past = drop (taken_count (marks c past)) (wants_of c past)
 abbrev pub found_made : ℕ → List Step → List Wanted
 found_made c past = drop (taken_count (marks c past)) (wants_of c (at_ask past))
 
--- a list of wants, the first `taken` of which the turn out takes, is what the journal says of each connection
-pub record AreWished (past : List Step) (wants : List Wanted) (taken : ℕ) : Type 0 where
+-- a list of wants, the first `taken` of which the turn out takes, is what the journal says of each connection. Of those that are gone, each of
+-- which is over, it has none
+pub record AreWished (past : List Step) (gone : ℕ → Bool) (wants : List Wanted) (taken : ℕ) : Type 0 where
+  pub over : (c : ℕ) → gone c ≡ true → is_over c past ≡ true
   pub within : taken ≤ length wants
-  pub all : (c : ℕ) → wanted_by c wants ≡ untaken c past
-  pub out : is_out past ≡ true → (c : ℕ) → wanted_by c (take taken wants) ≡ found_made c past
+  pub all : (c : ℕ) → wanted_by c wants ≡ cond (gone c) [] (untaken c past)
+  pub out : is_out past ≡ true → (c : ℕ) → wanted_by c (take taken wants) ≡ cond (gone c) [] (found_made c past)
   pub none : is_out past ≡ false → taken ≡ 0
 
 -- an entry that makes no want and is none of a turn

@@ -20,5 +20,6 @@ pub use placing_laws::turns_place_their_wants;
 pub use releasing::release;
 pub use wanting_laws::{
     confirmations_come_with_their_turn, marks_are_placed_by_the_turn, wants_are_the_journals,
+    wants_of_others_stay,
 };
 pub use wants::Wants;

@@ -1,4 +1,4 @@
-ghost use Rattle.std.specs.Prelude.{◌≡◌, ℕ, List, ◌∷◌, take, true, false};
+ghost use Rattle.std.specs.Prelude.{◌≡◌, ℕ, Bool, List, ◌∷◌, take, true, false};
 ghost use Rattle.cable_model.specs.declared.journals.ReadNote.{ReadNote};
 ghost use Rattle.cable_model.specs.Legal.{Legal};
 ghost use Rattle.cable_model.specs.Possible.{is_out};
@@ -13,10 +13,10 @@ ghost use Rattle.node_turns.specs.Holding.{AreNew, placings_of, with_placings};
 
 /// A law, which computes nothing. The Deliver of a turn that wasn't missed places the wants that the turn takes and that stand.
 pub fn turns_place_their_wants()
-    ensures new { (turn : ℕ) (note : ReadNote) (past : List Step) (v : Numbers) (ws : List Wanted) (taken : ℕ) (m : HoldMap)
-        → Legal past → is_out past ≡ true → note.failed ≡ false → AreSeats past v → AreWished past ws taken → AreHeld past m
+    ensures new { (turn : ℕ) (note : ReadNote) (past : List Step) (v : Numbers) (gone : ℕ → Bool) (ws : List Wanted) (taken : ℕ) (m : HoldMap)
+        → Legal past → is_out past ≡ true → note.failed ≡ false → AreSeats past v → AreWished past gone ws taken → AreHeld past m
         → AreNew (placings_of v note.last (take taken ws)) m }
-    ensures held { (turn : ℕ) (note : ReadNote) (past : List Step) (v : Numbers) (ws : List Wanted) (taken : ℕ) (m : HoldMap)
-        → Legal past → is_out past ≡ true → note.failed ≡ false → AreSeats past v → AreWished past ws taken → AreHeld past m
+    ensures held { (turn : ℕ) (note : ReadNote) (past : List Step) (v : Numbers) (gone : ℕ → Bool) (ws : List Wanted) (taken : ℕ) (m : HoldMap)
+        → Legal past → is_out past ≡ true → note.failed ≡ false → AreSeats past v → AreWished past gone ws taken → AreHeld past m
         → AreHeld (Step.Deliver turn note ∷ past) (with_placings (placings_of v note.last (take taken ws)) m) }
 {}

@@ -1,6 +1,7 @@
 ghost use Rattle.std.specs.Prelude.{◌≡◌, ◌==◌, ◌≤◌, ◌<◌, ◌+◌, ◌^◌, ◌&&◌, [], ◌∷◌, ◌++◌, length, map, take, drop, OnOk};
 ghost use Rattle.cable_model.specs.Wants.{makes};
 ghost use Rattle.conn_core.specs.Bare.{bare};
+ghost use Rattle.node_turns.specs.Wants.{wanted_but};
 ghost use Rattle.node_turns.specs.Wished.{wanted_above, wanted_with, number_named};
 ghost use Rattle.conn_core.specs.Subscriptions.{shown};
 
@@ -152,5 +153,24 @@ impl Wants {
     {
         self.wanted.drain(..self.taken as usize);
         self.taken = 0;
+    }
+    /// How many of those that the turn out takes are not of this connection.
+    fn taken_but(&self, conn: ConnNo) -> u64
+        ensures { result ≡ length (wanted_but conn.0 (take self.now.taken self.now.wanted)) }
+    {
+        self.taken()
+            .iter()
+            .filter(|wanted| wanted.conn != conn)
+            .count() as u64
+    }
+
+    /// Drops those of this connection, also of those that the turn out takes. The others stay in their order, and it takes those of them that
+    /// it took. It takes no memory.
+    pub fn drop_those_of(&mut self, conn: ConnNo)
+        ensures wanted { self.new.wanted ≡ wanted_but conn.0 self.old.wanted }
+        ensures taken { self.new.taken ≡ length (wanted_but conn.0 (take self.old.taken self.old.wanted)) }
+    {
+        self.taken = self.taken_but(conn);
+        self.wanted.retain(|wanted| wanted.conn != conn);
     }
 }

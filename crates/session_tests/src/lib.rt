@@ -8,6 +8,10 @@ mod clients;
 #[cfg(test)]
 mod node_tests;
 #[cfg(test)]
+mod nodes;
+#[cfg(test)]
+mod others_tests;
+#[cfg(test)]
 mod told_desk;
 #[cfg(test)]
 mod told_tests;

@@ -1,23 +1,16 @@
 ghost use Rattle.cable_link.specs.Memory.{AllCome};
 
 use crate::clients::{are, failing, silent, with_binary, with_closed, with_text};
-use cable_base::{ConnNo, NodeNo, RowId, Text};
+use crate::nodes::{ANN, CONFIRMED, SUBSCRIBE, WELCOME, works};
+use cable_base::{NodeNo, RowId, Text};
 use cable_link::{Came, MemLink};
 use channel_book::Book;
-use node_core::{Job, Node, Work};
+use node_core::Node;
 use std::alloc::Global;
 use std::test::Fail;
 use ws_session::{PumpFault, Pumped, pump_once};
 
 const BOOK: &str = r#"{"tokens":{"t1":"ann"},"channels":[{"name":"Plain"}]}"#;
-
-const ANN: ConnNo = ConnNo(7);
-
-const SUBSCRIBE: &str = r#"{"command":"subscribe","identifier":"{\"channel\":\"Plain\"}"}"#;
-
-const WELCOME: &str = r#"{"type":"welcome"}"#;
-
-const CONFIRMED: &str = r#"{"identifier":"{\"channel\":\"Plain\"}","type":"confirm_subscription"}"#;
 
 const RESTARTED: &str = r#"{"type":"disconnect","reason":"server_restart","reconnect":true}"#;
 
@@ -51,37 +44,6 @@ enum Act {
     Receives(bool),
     /// These texts were said to the client, in order.
     Said(&'static [&'static str]),
-}
-
-fn finishes(node: &mut Node, work: Work) -> bool {
-    if !node.fits(&work) {
-        work.give_up();
-        return false;
-    }
-    match node.finish(work) {
-        Ok(()) => true,
-        Err(work) => {
-            work.give_up();
-            false
-        }
-    }
-}
-
-fn works_job(node: &mut Node, book: &Book, job: Job) -> bool {
-    match job.plan(book) {
-        Ok(work) => finishes(node, work),
-        Err(job) => {
-            job.give_up();
-            false
-        }
-    }
-}
-
-fn works(node: &mut Node, book: &Book) -> bool {
-    match node.take_next() {
-        Ok(Some(job)) => works_job(node, book, job),
-        Ok(None) | Err(_) => false,
-    }
 }
 
 fn is_idle(node: &mut Node) -> bool {
@@ -176,6 +138,45 @@ fn texts_go_both_ways(rt: HostRuntime) -> Result<(), Fail> {
         Act::Receives(false),
         Act::Works,
         Act::IsIdle,
+    ]);
+    assert_eq!(rt; wrong, None);
+    Ok(())
+}
+
+/// What the client says needs be no command: the pump doesn't look.
+#[test]
+fn a_pump_goes_and_then_is_quiet(rt: HostRuntime) -> Result<(), Fail> {
+    let alloc = rt.alloc();
+    let mut talk = Talk::open(alloc, with_text(alloc, silent(alloc), "{}")?, &[])?;
+    let wrong = talk.first_wrong(&[
+        Act::Pumps(Pumped::Went),
+        Act::Said(&[WELCOME]),
+        Act::Pumps(Pumped::Quiet),
+    ]);
+    assert_eq!(rt; wrong, None);
+    Ok(())
+}
+
+#[test]
+fn a_pump_goes_and_then_ends_where_the_link_is_closed(rt: HostRuntime) -> Result<(), Fail> {
+    let alloc = rt.alloc();
+    let coming = with_closed(with_text(alloc, silent(alloc), "{}")?)?;
+    let mut talk = Talk::open(alloc, coming, &[])?;
+    let wrong = talk.first_wrong(&[Act::Pumps(Pumped::Went), Act::Pumps(Pumped::Ended)]);
+    assert_eq!(rt; wrong, None);
+    Ok(())
+}
+
+#[test]
+fn a_pump_whose_link_refuses_the_welcome_closes_the_connection(
+    rt: HostRuntime,
+) -> Result<(), Fail> {
+    let alloc = rt.alloc();
+    let mut talk = Talk::open(alloc, with_text(alloc, silent(alloc), "{}")?, &[2])?;
+    let wrong = talk.first_wrong(&[
+        Act::Refuses(PumpFault::LinkFault),
+        Act::Said(&[]),
+        Act::Receives(false),
     ]);
     assert_eq!(rt; wrong, None);
     Ok(())

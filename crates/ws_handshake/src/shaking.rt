@@ -22,6 +22,8 @@ enum Stage {
 }
 
 /// A handshake that waits for bytes to come, or for room for its answer.
+///
+/// To go on takes it, and it comes back only where it waits. So behind a failure, as behind its end, there is none to go on with.
 #[derive(Drop)]
 pub struct Shake {
     alloc: Global,
@@ -32,13 +34,14 @@ pub struct Shake {
 /// How far a handshake is.
 #[derive(Drop)]
 pub enum Shaken {
-    /// It goes on when the stream is ready again.
+    /// It goes on when the stream is ready again, by the same rules.
     Waits(Shake),
-    /// The request was admitted and is answered.
+    /// The request was admitted and is answered. The socket is the link's, which has counted no fault.
     Done(WsLink<NoMask>, Admission),
-    /// A rule denied the request, which was answered so, and the socket is closed.
+    /// A rule denied the request, or memory was wanted for it: it was answered so, and the socket is closed.
     Denied(Denial),
-    /// The client asked for no handshake, it went, or memory was wanted. The socket is closed.
+    /// The client asked for no handshake, it went, or memory was wanted. The socket is closed, and nobody was let in. What came over it
+    /// is known to nobody, so no clause says when this is answered.
     Failed,
 }
 
@@ -140,7 +143,7 @@ fn hear(alloc: Global, stream: TcpStream, hearing: Hearing) -> Shaken
 
 impl Shake {
     /// Begins a handshake over a stream that doesn't block. Its request is admitted by these rules. It is refused where memory is
-    /// wanted.
+    /// wanted, and then the socket is closed.
     pub fn begin(
         alloc: Global,
         stream: TcpStream,

@@ -1,6 +1,7 @@
 use Rattle.std.proofs.Common.{rules, ◌≡◌, ◌+◌, ◌∙◌, ℕ, true, [], refl, sym, ap, subst}
 use Rattle.poll_turn.specs.Turns.{CursorState}
 use Rattle.node_core.specs.Nodes.{NodeState}
+use Rattle.node_core.specs.contracts.nodes.Node.{the_view}
 use Rattle.node_core.specs.Turned.{IsNextTurn}
 use Rattle.node_core.proofs.Asking.{asked, asks, next-turn}
 use Rattle.node_core.proofs.Refreshing.{looks-none}
@@ -29,7 +30,7 @@ returns-clause-turn c =
     let unasked = sym c.is_out.ensures ∙ c.if-is_out.false in
     let now = asked c.self.inside.no c.in_ok-hashes.hashes.items k c.ask-turn.new.self c.ask-turn.result unasked c.ask-turn.ensures in
     let self = c.self.inside in
-    let n : NodeState = record { no = self.no; kept = self.journal.kept; stored = self.journal.stored; outs = self.seats.outs; ready = self.ready.waiting } in
+    let n : NodeState = the_view self in
     λ t e. subst (λ (m : NodeState). IsNextTurn t m) c.self.view_is
     (next-turn n self.seats.entries k self.holders _ _ c.in_ok-hashes.hashes.items c.ask-turn.result t c.self.invariant.stands
     c.in_ok-hashes.ensures.hashes c.in_ok-hashes.ensures.held now.turn e)

@@ -7,6 +7,7 @@ use Rattle.node_seats.specs.Turned.{Places}
 use Rattle.node_seats.proofs.Rooming.{room-placed}
 use Rattle.node_turns.specs.Wants.{confirms_of}
 use Rattle.node_core.specs.Nodes.{NodeState}
+use Rattle.node_core.specs.contracts.nodes.Node.{the_view}
 use Rattle.poll_turn.specs.Notes.{note_in}
 use Rattle.node_core.proofs.Asking.{expected, no-room}
 use Rattle.node_core.proofs.Delivering.{delivers, roomy}
@@ -18,11 +19,11 @@ use Rattle.node_core.proofs.nodes.Node.bring_in.Goals as goal
 pub bring-requires : goal.bring-requires
 bring-requires g c =
     let self = c.self.inside in
-    let n : NodeState = record { no = self.no; kept = self.journal.kept; stored = self.journal.stored; outs = self.seats.outs; ready = self.ready.waiting } in
+    let n : NodeState = the_view self in
     let e = rw (← c.self.view_is) at c.requires.expected in
     let x = expected c.args.caught n e in
     let h = c.self.invariant.stands in
-    let news = places-new c.args.caught.number (note_in c.args.caught) _ _ _ _ _ h.legal x.out c.requires.found h.numbers h.wished h.held in
+    let news = places-new c.args.caught.number (note_in c.args.caught) _ _ _ _ _ _ h.legal x.out c.requires.found h.numbers h.wished h.held in
     record { new = rw c.taken.ensures news }
 
 pub put_all-requires : goal.put_all-requires
@@ -42,7 +43,7 @@ invariant_of-self g c = record {
 pub invariant_of-self-2 : goal.invariant_of-self-2
 invariant_of-self-2 g c =
     let self = c.self.inside in
-    let n : NodeState = record { no = self.no; kept = self.journal.kept; stored = self.journal.stored; outs = self.seats.outs; ready = self.ready.waiting } in
+    let n : NodeState = the_view self in
     let e = rw (← c.self.view_is) at c.requires.expected in
     let x = expected c.args.caught n e in
     let v = self.seats.entries in

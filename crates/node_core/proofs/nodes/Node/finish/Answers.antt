@@ -8,6 +8,7 @@ use Rattle.node_seats.specs.Outboxes.{Queues, all_on}
 use Rattle.node_seats.specs.Numbers.{seat_in}
 use Rattle.node_core.specs.Jobs.{Fits, WorkState}
 use Rattle.node_core.specs.Nodes.{NodeState}
+use Rattle.node_core.specs.contracts.nodes.Node.{the_view}
 use Rattle.node_core.proofs.Finishes.{Ready, answered-out, finishes-as, ignoring, live-out, out-on, plan-out, ready}
 use Rattle.node_core.proofs.Standing.{room-left}
 use Rattle.node_core.proofs.StayingReady.{alike-finished, goes-nowhere, goes-on, still-ready}
@@ -17,7 +18,7 @@ use Rattle.node_core.proofs.nodes.Node.finish.Goals as goal
 pub make_room-requires : goal.make_room-requires
 make_room-requires c =
     let self = c.self.inside in
-    let n : NodeState = record { no = self.no; kept = self.journal.kept; stored = self.journal.stored; outs = self.seats.outs; ready = self.ready.waiting } in
+    let n : NodeState = the_view self in
     let work = c.work.inside in
     let w : WorkState = record { node = work.node; conn = work.conn; place = work.place; task = work.task; plan = work.plan; puts = work.puts.items } in
     let f : Fits w n = rw (c.work.view_is, c.self.view_is) c.requires in
@@ -26,7 +27,7 @@ make_room-requires c =
 pub unreachable-requires : goal.unreachable-requires
 unreachable-requires c =
     let self = c.self.inside in
-    let n : NodeState = record { no = self.no; kept = self.journal.kept; stored = self.journal.stored; outs = self.seats.outs; ready = self.ready.waiting } in
+    let n : NodeState = the_view self in
     let work = c.work.inside in
     let w : WorkState = record { node = work.node; conn = work.conn; place = work.place; task = work.task; plan = work.plan; puts = work.puts.items } in
     let f : Fits w n = rw (c.work.view_is, c.self.view_is) c.requires in
@@ -45,7 +46,7 @@ unreachable-requires c =
 pub put_change-requires-clause-numbers : goal.put_change-requires-clause-numbers
 put_change-requires-clause-numbers c =
     let self = c.self.inside in
-    let n : NodeState = record { no = self.no; kept = self.journal.kept; stored = self.journal.stored; outs = self.seats.outs; ready = self.ready.waiting } in
+    let n : NodeState = the_view self in
     let work = c.work.inside in
     let w : WorkState = record { node = work.node; conn = work.conn; place = work.place; task = work.task; plan = work.plan; puts = work.puts.items } in
     let f : Fits w n = rw (c.work.view_is, c.self.view_is) c.requires in
@@ -66,7 +67,7 @@ put_change-requires-clause-numbers c =
 pub finish-requires-clause-can : goal.finish-requires-clause-can
 finish-requires-clause-can c =
     let self = c.self.inside in
-    let n : NodeState = record { no = self.no; kept = self.journal.kept; stored = self.journal.stored; outs = self.seats.outs; ready = self.ready.waiting } in
+    let n : NodeState = the_view self in
     let work = c.work.inside in
     let w : WorkState = record { node = work.node; conn = work.conn; place = work.place; task = work.task; plan = work.plan; puts = work.puts.items } in
     let f : Fits w n = rw (c.work.view_is, c.self.view_is) c.requires in
@@ -84,7 +85,7 @@ finish-requires-clause-can c =
 pub invariant_of-self-2 : goal.invariant_of-self-2
 invariant_of-self-2 c =
     let self = c.self.inside in
-    let n : NodeState = record { no = self.no; kept = self.journal.kept; stored = self.journal.stored; outs = self.seats.outs; ready = self.ready.waiting } in
+    let n : NodeState = the_view self in
     let work = c.work.inside in
     let w : WorkState = record { node = work.node; conn = work.conn; place = work.place; task = work.task; plan = work.plan; puts = work.puts.items } in
     let f : Fits w n = rw (c.work.view_is, c.self.view_is) c.requires in

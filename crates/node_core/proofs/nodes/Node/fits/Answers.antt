@@ -1,13 +1,14 @@
 use Rattle.std.proofs.Common.{rules, ◌≡◌, length}
 use Rattle.node_core.specs.Jobs.{WorkState}
 use Rattle.node_core.specs.Nodes.{NodeState}
+use Rattle.node_core.specs.contracts.nodes.Node.{the_view}
 use Rattle.node_core.proofs.Finishes.{fits-as}
 use Rattle.node_core.proofs.nodes.Node.fits.Goals as goal
 
 pub returns : goal.returns
 returns c =
     let self = c.self.inside in
-    let n : NodeState = record { no = self.no; kept = self.journal.kept; stored = self.journal.stored; outs = self.seats.outs; ready = self.ready.waiting } in
+    let n : NodeState = the_view self in
     let work = c.work.inside in
     let w : WorkState = record { node = work.node; conn = work.conn; place = work.place; task = work.task; plan = work.plan; puts = work.puts.items } in
     let node : c.work.inside.node ≡ c.self.inside.no = search rules in

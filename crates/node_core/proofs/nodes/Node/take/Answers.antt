@@ -78,7 +78,14 @@ returns-clause-job c =
     let h = c.self.invariant.stands in
     let job = takes-job c.args.conn.0 before v c.take.new.self.entries errand (worked _ h.legal) h.numbers told moved in
     let now = c.enter.ensures.entered ∙ ap (λ (k : Kept). Step.Take c.args.conn.0 ∷ past_of k) c.in_ok-reserve.ensures.kept in
-    let n : NodeState = record { no = c.self.inside.no; kept = c.enter.new.self.kept; stored = c.enter.new.self.stored; outs = c.take.new.self.outs; ready = c.drop_out.new.self.waiting } in
+    let n : NodeState = record {
+      no = c.self.inside.no;
+      kept = c.enter.new.self.kept;
+      stored = c.enter.new.self.stored;
+      outs = c.take.new.self.outs;
+      ready = c.drop_out.new.self.waiting;
+      wants = c.self.inside.wants.wanted;
+    } in
     λ j e. given-back n c.args.conn before errand j job now e
 
 pub returns-clause-goes : goal.returns-clause-goes

@@ -7,7 +7,8 @@ invariant_of-self c =
     let outs = c.self.inside.seats.outs in
     let new = c.take_out.new.self.outs in record {
       stands = rw c.take_out.ensures.entries
-          (queues-now new c.self.invariant.stands (takes-out c.args.conn.0 _ outs new c.self.invariant.stands.queues c.take_out.result c.take_out.ensures.out));
+          (queues-now new c.self.invariant.stands (takes-out c.args.conn.0 _ outs new c.self.invariant.stands.queues c.take_out.result c.take_out.ensures.out)
+          c.take_out.ensures.out.forgotten);
       turn_room = c.self.invariant.turn_room;
       ready = rw c.take_out.ensures.entries c.self.invariant.ready;
     }

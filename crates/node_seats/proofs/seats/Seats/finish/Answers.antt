@@ -3,17 +3,15 @@ use Rattle.cable_model.specs.declared.plans.Change.{Change}
 use Rattle.conn_seat.specs.Seats.{Seated, CanFinish}
 use Rattle.node_seats.specs.Numbers.{Finished, Opened}
 use Rattle.node_seats.proofs.Faces.{wrote}
-use Rattle.node_seats.proofs.Moving.{tidy-over, tidy-finished}
+use Rattle.node_seats.proofs.Moving.{tidy, tidy-over}
 use Rattle.node_seats.proofs.Shown.{moved-by, on-opened, one-outbox, opened-found, opened-missing, outbox-found}
 use Rattle.node_seats.proofs.OneQueue.{queues-all}
 use Rattle.node_seats.proofs.seats.Seats.finish.Goals as goal
 
 can-finish : (change : Change) (kept : Opened) (o : Option Opened) → o ≡ Some kept → ((s : Seated) × (o ≡ Some (Opened.Live s)) × CanFinish change s)
     → (s : Seated) × (kept ≡ Opened.Live s) × CanFinish change s
-can-finish change kept o found can = (can.0, opened-is (Opened.Live can.0) (sym found ∙ can.1), can.2)
-  where
-    opened-is : (other : Opened) → Some kept ≡ Some other → kept ≡ other
-    opened-is other e = cc e
+can-finish change kept o found can =
+    let is : Some kept ≡ Some (Opened.Live can.0) = sym found ∙ can.1 in let same : kept ≡ Opened.Live can.0 = cc is in (can.0, same, can.2)
 
 pub finish-requires : goal.finish-requires
 finish-requires c =
@@ -32,8 +30,7 @@ invariant_of-self c =
 pub invariant_of-self-else-finish : goal.invariant_of-self-else-finish
 invariant_of-self-else-finish c =
     let w = wrote c.args.conn.0 _ _ _ _ c.in-Some.ensures.value (c.get_mut.follows.holds c.finish.new.self).0 in
-    tidy-finished _ c.args.conn.0 _ _ _ _ _ (on-opened _ _ _ _ _ w) c.finish.ensures.made
-    (c.finish.ensures.over.1 c.if-finish.false) c.finish.ensures.keeps c.self.invariant
+    tidy c.args.conn.0 _ _ _ _ _ (on-opened _ _ _ _ _ w) (c.finish.ensures.over.1 c.if-finish.false) c.finish.ensures.keeps c.self.invariant
 
 pub returns-then-finish : goal.returns-then-finish
 returns-then-finish c =

@@ -1,12 +1,12 @@
-use Rattle.std.proofs.Common.{◌≡◌, true, false, [], refl, sym, subst, ◌∙◌}
+use Rattle.std.proofs.Common.{◌≡◌, true, false, [], refl, sym, subst}
 use Rattle.conn_seat.specs.Outboxes.{OutboxState}
 use Rattle.node_seats.proofs.Shown.{outbox-found, outbox-missing}
 use Rattle.node_seats.proofs.seats.Seats.is_drained.Goals as goal
 
 pub returns-in-Some : goal.returns-in-Some
 returns-in-Some c =
-    subst (λ (o : OutboxState). (c.is_empty.result ≡ true → o.queued ≡ []) × (c.is_empty.result ≡ false → o.queued ≡ [] → ⊥))
-    (c.outbox.ensures ∙ sym (outbox-found c.args.conn.0 _ _ c.self.view_is _ (sym c.in-Some.ensures.value))) c.is_empty.ensures
+    subst (λ (o : OutboxState). (c.is_drained.result ≡ true → o.queued ≡ []) × (c.is_drained.result ≡ false → o.queued ≡ [] → ⊥))
+    (sym (outbox-found c.args.conn.0 _ _ c.self.view_is _ (sym c.in-Some.ensures.value))) c.is_drained.ensures
 
 pub returns-in-None : goal.returns-in-None
 returns-in-None c =

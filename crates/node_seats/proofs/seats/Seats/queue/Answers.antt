@@ -1,7 +1,7 @@
 use Rattle.std.proofs.Common.{◌≤◌, sym, ap, subst, arith}
 use Rattle.conn_seat.specs.Outboxes.{OutboxState}
 use Rattle.node_seats.proofs.Faces.{wrote}
-use Rattle.node_seats.proofs.OneQueue.{queues-one}
+use Rattle.node_seats.proofs.OneQueue.{queues-one, spends-one}
 use Rattle.node_seats.proofs.Shown.{one-outbox, opened-same, outbox-found, outbox-missing, tidy-still}
 use Rattle.node_seats.proofs.seats.Seats.queue.Goals as goal
 
@@ -16,9 +16,11 @@ invariant_of-self c =
 pub returns : goal.returns
 returns c =
     let w = wrote c.args.more.conn.0 _ _ _ _ c.in-Some.ensures.value (c.get_mut.follows.holds c.queue.new.self).0 in
+    let one = one-outbox _ _ _ _ _ w _ c.self.view_is in
     record {
       entries = opened-same _ _ _ _ _ w _ c.self.view_is c.queue.ensures.opened;
-      queues = queues-one c.args.more _ _ _ _ (one-outbox _ _ _ _ _ w _ c.self.view_is) c.queue.ensures.queued;
+      queues = queues-one c.args.more _ _ _ _ one c.queue.ensures.queued;
+      spends = spends-one c.args.more _ _ _ _ one c.queue.ensures.queued;
     }
 
 pub unreachable-requires : goal.unreachable-requires

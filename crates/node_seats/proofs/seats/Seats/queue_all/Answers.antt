@@ -1,7 +1,7 @@
 use Rattle.std.proofs.Common.{◌≡◌, ◌++◌, [], List, sym, ap, subst, ◌∙◌, arith, append-nil, drop_of_length-le}
 use Rattle.node_seats.specs.declared.queues.Queued.{Queued}
 use Rattle.node_seats.specs.Outboxes.{CanQueue, queue_at, outs_for}
-use Rattle.node_seats.proofs.Queueing.{room-first, room-rest, queue-rest, taken-rest, forgotten-rest}
+use Rattle.node_seats.proofs.Queueing.{room-first, room-rest, queue-rest}
 use Rattle.node_seats.proofs.seats.Seats.queue_all.Goals as goal
 
 pub queue-requires : goal.queue-requires
@@ -19,10 +19,10 @@ loop-one-preserved c =
     let steps = c.in-Some.ensures.steps.0 in
     record {
       entries = c.queue.ensures.entries ∙ c.loop-one.invariant.entries;
-      room = room-rest one rest old new c.queue.ensures.queues (subst (λ (qs : List Queued). CanQueue qs old) steps c.loop-one.invariant.room);
+      room = room-rest one rest old new c.queue.ensures.spends (subst (λ (qs : List Queued). CanQueue qs old) steps c.loop-one.invariant.room);
       queue = λ d. queue-rest one rest old new c.queue.ensures.queues d ∙ ap (λ qs. queue_at d old ++ outs_for d qs) (sym steps) ∙ c.loop-one.invariant.queue d;
-      taken = λ d. taken-rest one old new c.queue.ensures.queues d ∙ c.loop-one.invariant.taken d;
-      forgotten = λ d. forgotten-rest one old new c.queue.ensures.queues d ∙ c.loop-one.invariant.forgotten d;
+      taken = λ d. c.queue.ensures.queues.taken d ∙ c.loop-one.invariant.taken d;
+      forgotten = λ d. c.queue.ensures.queues.forgotten d ∙ c.loop-one.invariant.forgotten d;
     }
 
 pub returns : goal.returns
